@@ -1,0 +1,6 @@
+-- Laws about the definitions of specs/, for every crate above.
+pub mod Bools
+pub mod Leasts
+pub mod Sums
+pub mod Parts
+pub mod Every

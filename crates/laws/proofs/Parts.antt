@@ -1,0 +1,72 @@
+-- The laws of `part` and of `same`.
+-- Assumes nothing.
+use Prim.Native.Nat.{ℕ, zero, suc, _+_, _-_, _≤_, _<_}
+use mathlib.Core.Bool.{true, false}
+use mathlib.Core.List.{List, [], _∷_}
+use mathlib.Core.Path.{_≡_, refl}
+use native.Mathlib.Nat.{le-of-suc-le-suc, not-suc-le-zero}
+use native.Mathlib.Omega.{arith}
+use borrow.Author.Tests.{eqb-true, eq-eqb, ne-eqb, not-false}
+use lib.Dec.{eqb}
+use lib.ListN.{length, getD, take, drop, length-drop}
+use lib.Seq.{getD-take, getD-drop, ext-getD, length-take-le, take-all}
+use Rattle.laws.specs.Least.{least, none}
+use Rattle.laws.specs.Part.{part, differ, same}
+use Rattle.laws.proofs.Bools.{and-left, and-right}
+use Rattle.laws.proofs.Leasts.{least-more, none-each, none-if, none-true, none-false}
+
+-- inside a list the default is not read
+pub inside {ℓ} : {A : Type ℓ} (l : List A) (i : ℕ) (d e : A) → i < length l → getD l i d ≡ getD l i e
+inside [] i d e h = absurd (not-suc-le-zero h)
+inside (x ∷ l) zero d e h = refl
+inside (x ∷ l) (suc i) d e h = inside l i d e (le-of-suc-le-suc h)
+
+module _ (start size : ℕ) (s : List ℕ) where
+  pub part-length : start + size ≤ length s → length (part start size s) ≡ size
+  unfolding part
+  part-length h = length-take-le size (drop start s) (rw length-drop (omega arith))
+
+  pub part-at : (i : ℕ) → i < size → getD (part start size s) i 0 ≡ getD s (start + i) 0
+  unfolding part
+  part-at i h = rw (getD-take, getD-drop)
+
+-- all from a place on
+pub rest : (n : ℕ) (s : List ℕ) → take (length s - n) (drop n s) ≡ drop n s
+rest n s = take-all (length s - n) (drop n s) (rw length-drop (omega arith))
+
+-- what is the same is equal, and a list is the same as itself
+pub same-equal : (a b : List ℕ) → same a b ≡ true → a ≡ b
+unfolding same differ
+same-equal a b t = ext-getD 0 a b long (λ i h. place i (none-each (differ a b) (length a) (and-right (eqb (length a) (length b)) (none (differ a b) (length a)) t) i h))
+  where
+    long : length a ≡ length b
+    long = eqb-true (length a) (length b) (and-left (eqb (length a) (length b)) (none (differ a b) (length a)) t)
+
+    place : (i : ℕ) → differ a b i ≡ false → getD a i 0 ≡ getD b i 0
+    place i e = eqb-true (getD a i 0) (getD b i 0) (not-false _ e)
+
+pub same-self : (a : List ℕ) → same a a ≡ true
+unfolding same differ
+same-self a = rw (eq-eqb (length a) (length a) refl, none-if (differ a a) (length a) (λ k h. place k))
+  where
+    place : (k : ℕ) → differ a a k ≡ false
+    place k = rw (eq-eqb (getD a k 0) (getD a k 0) refl)
+
+pub same-not : (a b : List ℕ) → (length a ≡ length b → ⊥) → same a b ≡ false
+unfolding same
+same-not a b h = rw (ne-eqb (length a) (length b) h)
+
+-- a loop that compares: as long as each other, and no place below i differs so far
+module _ (a b : List ℕ) (long : length a ≡ length b) where
+  pub same-stop : (i : ℕ) → i < length a → least (differ a b) i ≡ i → (getD a i 0 ≡ getD b i 0 → ⊥) → same a b ≡ false
+  unfolding same differ
+  same-stop i h e ne =
+      rw (eq-eqb (length a) (length b) long, none-false (differ a b) i (length a) h e (rw (ne-eqb (getD a i 0) (getD b i 0) ne)))
+
+  pub same-more : (i : ℕ) → least (differ a b) i ≡ i → getD a i 0 ≡ getD b i 0 → least (differ a b) (i + 1) ≡ i + 1
+  unfolding differ
+  same-more i e eq = least-more (differ a b) i e (rw (eq-eqb (getD a i 0) (getD b i 0) eq))
+
+  pub same-end : least (differ a b) (length a) ≡ length a → same a b ≡ true
+  unfolding same
+  same-end e = rw (eq-eqb (length a) (length b) long, none-true (differ a b) (length a) e)

@@ -1,0 +1,4 @@
+-- The mathematics below all other crates.
+pub mod Least
+pub mod Sum
+pub mod Part

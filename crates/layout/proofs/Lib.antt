@@ -1,0 +1,4 @@
+-- Laws about the definitions of specs/.
+pub mod Told
+pub mod Judged
+pub mod Marking

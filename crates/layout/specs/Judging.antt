@@ -1,0 +1,29 @@
+-- One record against its rows.
+use Prim.Native.Nat.{ℕ}
+use mathlib.Core.Bool.{cond}
+use mathlib.Core.List.{List}
+use lib.Dec.{eqb}
+use lib.ListN.{length, getD}
+use Rattle.layout.specs.declared.answers.Answer.{Answer}
+use Rattle.tables.specs.declared.kinds.Kind.{Kind}
+use Rattle.tables.specs.declared.kinds.Role.{Role}
+use Rattle.tables.specs.declared.rows.Row.{Row}
+use Rattle.layout.specs.Answers.{accepted, refusedAt, firstTold}
+use Rattle.tables.specs.Rows.{blank}
+use Rattle.tables.specs.Tables.{rowsOf}
+use Rattle.layout.specs.Rules.{holds}
+
+-- what is told of a broken row of record n: refusal 5 where the row has no code, else 4
+abbrev pub brokenAt : ℕ → Row → Answer
+brokenAt n r = refusedAt (cond (eqb (r .4) 0x30303030) 5 4) n (r .0) (r .4)
+
+-- what is told of row i
+unfoldable pub rowTells : Kind → List Row → List ℕ → List ℕ → ℕ → ℕ → Answer
+rowTells k rows rec header n i = cond (holds k rec header n (getD rows i blank)) accepted (brokenAt n (getD rows i blank))
+
+-- what is told of record n: the first row in table order that does not hold
+unfoldable pub judgeBy : Kind → List Row → List ℕ → List ℕ → ℕ → Answer
+judgeBy k rows rec header n = firstTold (rowTells k rows rec header n) (length rows)
+
+unfoldable pub judgeOf : Kind → Role → List ℕ → List ℕ → ℕ → Answer
+judgeOf k role rec header n = judgeBy k (rowsOf k role) rec header n

@@ -1,0 +1,6 @@
+-- Answers, and one record against its rows.
+pub mod Answers
+pub mod Items
+pub mod Rules
+pub mod Judging
+pub mod Marked

@@ -1,0 +1,64 @@
+-- What each class asks of the bytes of its item.
+use Prim.Native.Nat.{ℕ}
+use mathlib.Core.Bool.{Bool, cond, not, _&&_, _||_}
+use mathlib.Core.List.{List}
+use lib.Dec.{leb, eqb}
+use lib.ListN.{getD, drop}
+use Rattle.laws.specs.Part.{part, same}
+use Rattle.text.specs.Characters.{each, codeText, filled, digits, zeros}
+use Rattle.text.specs.Numbers.{valueOf, says, wordOf}
+use Rattle.text.specs.Dates.{isDate, notLater}
+use Rattle.tables.specs.declared.kinds.Kind.{Kind}
+use Rattle.tables.specs.declared.rows.Row.{Row}
+use Rattle.tables.specs.declared.rows.Class.{Class}
+use Rattle.tables.specs.declared.rows.Class.the-variants.{Each, CodeText, Filled, Owner, Institution, KindName, Date, NameDate, Serial, AsHeader, NotLater, Application, NotZero, Failed, FailedOrPart, Least}
+use Rattle.tables.specs.Kinds.{fixedOf}
+use Rattle.tables.specs.Codes.{isTableCode}
+use Rattle.layout.specs.Items.{dateOf, nameDay, amountOf, applicationOf}
+
+-- item 9 of an enrolment: code text, filled unless item 5 is "3"
+unfoldable pub owner : List ℕ → List ℕ → Bool
+owner item rec = cond (eqb (applicationOf rec) 0x33) (codeText item) (filled item)
+
+-- "99" and digits
+unfoldable pub institution : List ℕ → Bool
+institution item = digits item && (eqb (getD item 0 0) 0x39 && eqb (getD item 1 0) 0x39)
+
+-- "1", "3" or "7"
+unfoldable pub application : List ℕ → Bool
+application item = eqb (getD item 0 0) 0x31 || (eqb (getD item 0 0) 0x33 || eqb (getD item 0 0) 0x37)
+
+-- "N" and a table code
+unfoldable pub failed : List ℕ → Bool
+failed item = eqb (getD item 0 0) 0x4E && isTableCode (wordOf (drop 1 item))
+
+-- "P" and a table code or four spaces
+unfoldable pub partly : List ℕ → Bool
+partly item = eqb (getD item 0 0) 0x50 && (isTableCode (wordOf (drop 1 item)) || eqb (wordOf (drop 1 item)) 0x20202020)
+
+-- type "1", or an amount that reaches the least
+unfoldable pub enough : ℕ → List ℕ → List ℕ → Bool
+enough least item rec = eqb (getD item 0 0) 0x31 || leb least (amountOf rec)
+
+-- the class holds: of the item, the header's bytes at its place, the record, the header and the record's number
+unfoldable pub meets : Class → Kind → List ℕ → List ℕ → List ℕ → List ℕ → ℕ → Bool
+meets (Each low high) k item theirs rec header n = each low high item
+meets CodeText k item theirs rec header n = codeText item
+meets Filled k item theirs rec header n = filled item
+meets Owner k item theirs rec header n = owner item rec
+meets Institution k item theirs rec header n = institution item
+meets KindName k item theirs rec header n = eqb (wordOf item) (fixedOf k .name)
+meets Date k item theirs rec header n = isDate item
+meets NameDate k item theirs rec header n = same (drop 2 item) (nameDay rec)
+meets Serial k item theirs rec header n = says item n
+meets AsHeader k item theirs rec header n = same item theirs
+meets NotLater k item theirs rec header n = notLater item (dateOf header)
+meets Application k item theirs rec header n = application item
+meets NotZero k item theirs rec header n = not (zeros item)
+meets Failed k item theirs rec header n = failed item
+meets FailedOrPart k item theirs rec header n = failed item || partly item
+meets Least k item theirs rec header n = enough (fixedOf k .least) item rec
+
+-- the row's rule holds in a record
+unfoldable pub holds : Kind → List ℕ → List ℕ → ℕ → Row → Bool
+holds k rec header n r = meets (r .3) k (part (r .1) (r .2) rec) (part (r .1) (r .2) header) rec header n

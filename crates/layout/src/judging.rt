@@ -1,0 +1,40 @@
+// One record against its rows.
+ghost use mathlib.Core.Path.{_≡_};
+ghost use lib.ListN.{length};
+ghost use Rattle.tables.specs.Kinds.{fixedOf};
+ghost use Rattle.layout.specs.Judging.{brokenAt, judgeOf};
+use crate::answers::Answer;
+use crate::rules;
+use tables::kinds::Kind;
+use tables::kinds::Role;
+use tables::records;
+use tables::rows::Row;
+
+// A row with no code is one in which the item disagrees with the kind or the header.
+fn broken_at(number: u64, row: Row) -> Answer
+    ensures { λ r. ⌜ r ≡ brokenAt number row ⌝ }
+{
+    if row.4 == Answer::UNUSED {
+        return Answer::refused_at(5, number, row.0, row.4);
+    }
+    Answer::refused_at(4, number, row.0, row.4)
+}
+
+// The first row that the record breaks, as refusal 4 or 5; or accepted. `number` is the record's number in its file.
+pub fn judge(kind: Kind, role: Role, rec: &[u8], header: &[u8], number: u64) -> Answer
+    requires { ⌜ length (now rec) ≡ fixedOf kind .size ⌝ }
+    requires { ⌜ length (now header) ≡ fixedOf kind .size ⌝ }
+    ensures { λ r. ⌜ r ≡ judgeOf kind role (now (rec .entry)) (now (header .entry)) number ⌝ }
+{
+    let rows = records::row_count(kind, role);
+    let mut i = 0;
+    while i < rows {
+        let row = records::row_at(kind, role, i);
+        if rules::holds(kind, row, rec, header, number) {
+            i += 1;
+        } else {
+            return broken_at(number, row);
+        }
+    }
+    Answer::accepted()
+}

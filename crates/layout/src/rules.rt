@@ -1,0 +1,100 @@
+// What each class asks of the bytes of its item.
+ghost use mathlib.Core.Path.{_≡_};
+ghost use mathlib.Core.Bool.{_||_};
+ghost use Prim.Native.Nat.{_+_, _≤_};
+ghost use lib.ListN.{length};
+ghost use Rattle.layout.specs.Rules.{owner, institution, application, failed, partly, enough, holds};
+use crate::items;
+use tables::codes;
+use tables::kinds::Fixed;
+use tables::kinds::Kind;
+use tables::rows::Class;
+use tables::rows::Row;
+use text::characters;
+use text::dates;
+use text::numbers;
+use text::parts;
+
+// Four spaces: a code that is left blank.
+const BLANK: u64 = 0x2020_2020;
+
+fn owner(item: &[u8], rec: &[u8]) -> bool
+    ensures { λ r. ⌜ r ≡ owner (now (item .entry)) (now (rec .entry)) ⌝ }
+{
+    if parts::byte(rec, items::APPLICATION) == b'3' {
+        return characters::code_text(item);
+    }
+    characters::filled(item)
+}
+
+fn institution(item: &[u8]) -> bool
+    ensures { λ r. ⌜ r ≡ institution (now (item .entry)) ⌝ }
+{
+    if characters::each(b'0', b'9', item) {
+        return parts::byte(item, 0) == b'9' && parts::byte(item, 1) == b'9';
+    }
+    false
+}
+
+fn application(item: &[u8]) -> bool
+    ensures { λ r. ⌜ r ≡ application (now (item .entry)) ⌝ }
+{
+    let kind = parts::byte(item, 0);
+    if kind == b'1' {
+        return true;
+    }
+    kind == b'3' || kind == b'7'
+}
+
+fn failed(item: &[u8]) -> bool
+    ensures { λ r. ⌜ r ≡ failed (now (item .entry)) ⌝ }
+{
+    parts::byte(item, 0) == b'N' && codes::table_code(numbers::word(parts::rest(item, 1)))
+}
+
+fn partly(item: &[u8]) -> bool
+    ensures { λ r. ⌜ r ≡ partly (now (item .entry)) ⌝ }
+{
+    if parts::byte(item, 0) == b'P' {
+        let code = numbers::word(parts::rest(item, 1));
+        return codes::table_code(code) || code == BLANK;
+    }
+    false
+}
+
+fn enough(least: u64, item: &[u8], rec: &[u8]) -> bool
+    requires { ⌜ 55 ≤ length (now rec) ⌝ }
+    ensures { λ r. ⌜ r ≡ enough least (now (item .entry)) (now (rec .entry)) ⌝ }
+{
+    parts::byte(item, 0) == b'1' || least <= items::amount(rec)
+}
+
+// The row's rule holds in a record.
+pub(crate) fn holds(kind: Kind, row: Row, rec: &[u8], header: &[u8], number: u64) -> bool
+    requires { ⌜ row .1 + row .2 ≤ length (now rec) ⌝ }
+    requires { ⌜ row .1 + row .2 ≤ length (now header) ⌝ }
+    requires { ⌜ 55 ≤ length (now rec) ⌝ }
+    requires { ⌜ 55 ≤ length (now header) ⌝ }
+    ensures { λ r. ⌜ r ≡ holds kind (now (rec .entry)) (now (header .entry)) number row ⌝ }
+{
+    let item = parts::part(rec, row.1, row.2);
+    let class = row.3;
+    match class {
+        Class::Each(low, high) => characters::each(low, high, item),
+        Class::CodeText => characters::code_text(item),
+        Class::Filled => characters::filled(item),
+        Class::Owner => owner(item, rec),
+        Class::Institution => institution(item),
+        Class::KindName => numbers::word(item) == Fixed::of(kind).name,
+        Class::Date => dates::date(item),
+        Class::NameDate => parts::same(parts::rest(item, 2), parts::part(rec, 23, 4)),
+        Class::Serial => numbers::says(item, number),
+        Class::AsHeader => parts::same(item, parts::part(header, row.1, row.2)),
+        Class::NotLater => dates::not_later(item, parts::part(header, 27, 6)),
+        Class::Application => application(item),
+        Class::NotZero => !characters::each(b'0', b'0', item),
+        Class::Failed => failed(item),
+        Class::FailedOrPart => failed(item) || partly(item),
+        Class::Least => enough(Fixed::of(kind).least, item, rec),
+    }
+}

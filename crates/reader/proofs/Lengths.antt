@@ -1,0 +1,75 @@
+-- What a good length says: a whole number of records, at least two and not too many.
+-- Assumes nothing.
+use Prim.Native.Nat.{ℕ, _+_, _*_, _%_, _≤_}
+use mathlib.Core.Bool.{true, false}
+use mathlib.Core.List.{List}
+use mathlib.Core.Path.{_≡_, sym, _∙_, ap}
+use mathlib.Core.Logic.{⊎-elim}
+use native.Mathlib.Nat.{div-add-mod', mul-mod-left}
+use native.Mathlib.Omega.{arith}
+use borrow.Author.Tests.{eqb-true, leb-true, eq-eqb, le-leb}
+use lib.Dec.{eqb, leb}
+use lib.ListN.{length}
+use Rattle.laws.proofs.Bools.{and-left, and-right, either}
+use Rattle.layout.specs.declared.answers.Answer.{Answer}
+use Rattle.tables.specs.declared.kinds.Kind.{Kind}
+use Rattle.layout.specs.Answers.{accepted, refused}
+use Rattle.tables.specs.Kinds.{fixedOf, limit}
+use Rattle.reader.specs.Records.{countOf}
+use Rattle.reader.specs.Reading.{isWhole, lengthTells}
+
+-- whole records, at least two, at most the limit and two
+pub record Lengths (k : Kind) (s : List ℕ) : Type 0 where
+  pub whole : length s ≡ countOf k s * fixedOf k .size
+  pub fewest : 2 ≤ countOf k s
+  pub most : countOf k s ≤ limit + 2
+
+module _ (k : Kind) (s : List ℕ) where
+  whole-even : isWhole k s ≡ true → length s ≡ countOf k s * fixedOf k .size
+  unfolding isWhole countOf
+  whole-even t =
+      let even = eqb-true (length s % fixedOf k .size) 0 (and-left (eqb (length s % fixedOf k .size) 0) (leb 2 (countOf k s)) t) in
+      omega (arith, div-add-mod' (length s) (fixedOf k .size), even)
+
+  whole-two : isWhole k s ≡ true → 2 ≤ countOf k s
+  unfolding isWhole
+  whole-two t = leb-true 2 (countOf k s) (and-right (eqb (length s % fixedOf k .size) 0) (leb 2 (countOf k s)) t)
+
+  -- the three cases of the length
+  pub length-short : isWhole k s ≡ false → lengthTells k s ≡ refused 2
+  unfolding lengthTells
+  length-short f = rw f
+
+  pub length-long : isWhole k s ≡ true → leb (countOf k s) (limit + 2) ≡ false → lengthTells k s ≡ refused 3
+  unfolding lengthTells
+  length-long t f = rw (t, f)
+
+  pub length-right : isWhole k s ≡ true → leb (countOf k s) (limit + 2) ≡ true → lengthTells k s ≡ accepted
+  unfolding lengthTells
+  length-right t u = rw (t, u)
+
+  number : Answer → ℕ
+  number a = a .number
+
+  pub length-good : lengthTells k s .number ≡ 0 → Lengths k s
+  unfolding number
+  length-good e = ⊎-elim whole short (either (isWhole k s))
+    where
+      short : isWhole k s ≡ false → Lengths k s
+      short f = absurd (let z : _≡_ {A = ℕ} 2 0 = sym (ap number (length-short f)) ∙ e in omega arith)
+
+      fits : isWhole k s ≡ true → leb (countOf k s) (limit + 2) ≡ true → Lengths k s
+      fits t u = record { whole = whole-even t; fewest = whole-two t; most = leb-true (countOf k s) (limit + 2) u }
+
+      long : isWhole k s ≡ true → leb (countOf k s) (limit + 2) ≡ false → Lengths k s
+      long t f = absurd (let z : _≡_ {A = ℕ} 3 0 = sym (ap number (length-long t f)) ∙ e in omega arith)
+
+      whole : isWhole k s ≡ true → Lengths k s
+      whole t = ⊎-elim (fits t) (long t) (either (leb (countOf k s) (limit + 2)))
+
+  pub good-length : Lengths k s → lengthTells k s ≡ accepted
+  unfolding isWhole
+  good-length l = length-right (rw (eq-eqb (length s % fixedOf k .size) 0 even, le-leb 2 (countOf k s) (l .fewest))) (le-leb (countOf k s) (limit + 2) (l .most))
+    where
+      even : length s % fixedOf k .size ≡ 0
+      even = rw (l .whole) (mul-mod-left (countOf k s) (fixedOf k .size))

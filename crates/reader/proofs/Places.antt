@@ -1,0 +1,52 @@
+-- Where records lie in a file.
+-- Assumes nothing.
+use Prim.Native.Nat.{ℕ, suc, _+_, _-_, _*_, _≤_, _<_}
+use mathlib.Core.List.{List}
+use mathlib.Core.Bool.{true}
+use mathlib.Core.Path.{_≡_, refl}
+use native.Mathlib.Nat.{le-trans, suc-mul, mul-le-mul-right, div-mul-le-self, div-le-self}
+use native.Mathlib.Omega.{arith}
+use borrow.Author.Tests.{leb-true}
+use lib.Dec.{leb}
+use lib.ListN.{length, getD}
+use Rattle.laws.proofs.Every.{every, every-at}
+use Rattle.tables.specs.declared.kinds.Kind.{Kind}
+use Rattle.tables.specs.declared.kinds.Kind.the-variants.{EB13, EB14, EB21, EB22}
+use Rattle.tables.specs.declared.totals.Total.{Total}
+use Rattle.tables.specs.Kinds.{fixedOf}
+use Rattle.tables.specs.Totals.{noTotal, enrolmentTotals, eb21Totals, eb22Totals, totalsOf}
+use Rattle.tables.proofs.Tiling.{size-least}
+use Rattle.reader.specs.Records.{countOf}
+
+-- record i of a file lies inside it
+pub record-inside : (k : Kind) (s : List ℕ) (i : ℕ) → i < countOf k s → i * fixedOf k .size + fixedOf k .size ≤ length s
+unfolding countOf
+record-inside k s i h =
+    rw (← suc-mul i (fixedOf k .size)) (le-trans (mul-le-mul-right (fixedOf k .size) h) (div-mul-le-self (length s) (fixedOf k .size)))
+
+-- there are no more records than bytes
+pub count-small : (k : Kind) (s : List ℕ) → countOf k s ≤ length s
+unfolding countOf
+count-small k s = div-le-self (length s) (fixedOf k .size)
+
+-- a size divides
+pub size-pos : (k : Kind) → 0 < fixedOf k .size
+size-pos k = omega (arith, size-least k)
+
+-- a key lies inside its record
+pub key-inside : (k : Kind) → fixedOf k .key .start + fixedOf k .key .size ≤ fixedOf k .size
+key-inside EB13 = omega arith
+key-inside EB14 = omega arith
+key-inside EB21 = omega arith
+key-inside EB22 = omega arith
+
+-- a total lies inside every trailer
+totals-inside : (k : Kind) → every (λ (t : Total). leb (t .1 + t .2) 120) (totalsOf k) ≡ true
+unfolding enrolmentTotals eb21Totals eb22Totals
+totals-inside EB13 = refl
+totals-inside EB14 = refl
+totals-inside EB21 = refl
+totals-inside EB22 = refl
+
+pub total-inside : (k : Kind) (j : ℕ) → j < length (totalsOf k) → getD (totalsOf k) j noTotal .1 + getD (totalsOf k) j noTotal .2 ≤ 120
+total-inside k j h = leb-true _ 120 (every-at (λ (t : Total). leb (t .1 + t .2) 120) (totalsOf k) (totals-inside k) j noTotal h)

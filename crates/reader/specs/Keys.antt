@@ -1,0 +1,30 @@
+-- No two data records share a key.
+use Prim.Native.Nat.{ℕ, _+_}
+use mathlib.Core.Bool.{Bool, cond}
+use mathlib.Core.List.{List}
+use lib.Dec.{ltb}
+use Rattle.laws.specs.Least.{least, some}
+use Rattle.laws.specs.Part.{part, same}
+use Rattle.layout.specs.declared.answers.Answer.{Answer}
+use Rattle.tables.specs.declared.kinds.Kind.{Kind}
+use Rattle.layout.specs.Answers.{accepted, refusedAt}
+use Rattle.tables.specs.Kinds.{fixedOf}
+use Rattle.reader.specs.Records.{recordOf, dataOf}
+
+-- the key of data record i + 1
+unfoldable pub keyAt : Kind → List ℕ → ℕ → List ℕ
+keyAt k s i = part (fixedOf k .key .start) (fixedOf k .key .size) (recordOf k s (i + 1))
+
+unfoldable pub sharesKey : Kind → List ℕ → ℕ → ℕ → Bool
+sharesKey k s i j = same (keyAt k s i) (keyAt k s j)
+
+-- data record i + 1 has the key of an earlier one
+unfoldable pub repeats : Kind → List ℕ → ℕ → Bool
+repeats k s i = some (sharesKey k s i) i
+
+-- refusal 7 at the smallest record number that repeats an earlier key
+unfoldable pub repeatTold : Kind → ℕ → ℕ → Answer
+repeatTold k n i = cond (ltb i n) (refusedAt 7 (i + 1) (fixedOf k .key .item) 0x30303030) accepted
+
+unfoldable pub keysTell : Kind → List ℕ → Answer
+keysTell k s = repeatTold k (dataOf k s) (least (repeats k s) (dataOf k s))

@@ -1,0 +1,7 @@
+-- One whole file.
+pub mod Records
+pub mod Totals
+pub mod Keys
+pub mod Reading
+
+

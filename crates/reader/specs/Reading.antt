@@ -1,0 +1,35 @@
+-- Reading a file: 1, 2, 3; then the records in file order and their items in item order, 4 and 5 as met; then 6 by item; then 7.
+use Prim.Native.Nat.{ℕ, _+_, _%_}
+use mathlib.Core.Bool.{Bool, cond, _&&_}
+use mathlib.Core.List.{List}
+use lib.Dec.{leb, eqb}
+use lib.ListN.{length}
+use Rattle.layout.specs.declared.answers.Answer.{Answer}
+use Rattle.tables.specs.declared.kinds.Kind.{Kind}
+use Rattle.tables.specs.declared.kinds.Named.{Named}
+use Rattle.tables.specs.declared.kinds.Named.the-variants.{Is, Unknown}
+use Rattle.layout.specs.Answers.{accepted, refused, _then_}
+use Rattle.tables.specs.Kinds.{fixedOf, kindOf, limit}
+use Rattle.reader.specs.Records.{countOf, recordsTell}
+use Rattle.reader.specs.Totals.{totalsTell}
+use Rattle.reader.specs.Keys.{keysTell}
+
+-- a whole number of records, at least two
+unfoldable pub isWhole : Kind → List ℕ → Bool
+isWhole k s = eqb (length s % fixedOf k .size) 0 && leb 2 (countOf k s)
+
+-- 2: not whole; 3: more data records than the limit
+unfoldable pub lengthTells : Kind → List ℕ → Answer
+lengthTells k s = cond (isWhole k s) (cond (leb (countOf k s) (limit + 2)) accepted (refused 3)) (refused 2)
+
+-- the file as one of a kind
+unfoldable pub readAs : Kind → List ℕ → Answer
+readAs k s = lengthTells k s then recordsTell k s then totalsTell k s then keysTell k s
+
+-- 1: the kind is unknown
+abbrev pub readNamed : Named → List ℕ → Answer
+readNamed (Is k) s = readAs k s
+readNamed Unknown s = refused 1
+
+unfoldable pub readOf : ℕ → List ℕ → Answer
+readOf kind s = readNamed (kindOf kind) s

@@ -1,0 +1,2 @@
+-- Laws about the tables.
+pub mod Tiling

@@ -1,0 +1,62 @@
+-- Each kind by its table.
+use Rattle.tables.specs.Totals.{enrolmentTotals, eb21Totals, eb22Totals}
+use borrow.Author.Needs.{needs}
+use Rattle.tables.proofs.totals.total_at.Statement.{statement}
+use Rattle.tables.proofs.totals.total_at.Tie as tie
+
+enum-told : tie.Need-enum-told
+enum-told c = search needs
+
+enrolment-total-requires : tie.Need-enrolment-total-requires
+unfolding enrolmentTotals
+enrolment-total-requires c κs = rw (c .enum-told .given .1) at (c .before .before .pre)
+
+enum-told-2 : tie.Need-enum-told-2
+enum-told-2 c = search needs
+
+enrolment-total-requires-2 : tie.Need-enrolment-total-requires-2
+unfolding enrolmentTotals
+enrolment-total-requires-2 c κs = rw (c .enum-told2 .given .1) at (c .before .before .pre)
+
+enum-told-3 : tie.Need-enum-told-3
+enum-told-3 c = search needs
+
+eb21-total-requires : tie.Need-eb21-total-requires
+unfolding eb21Totals
+eb21-total-requires c κs = rw (c .enum-told3 .given .1) at (c .before .before .pre)
+
+enum-told-4 : tie.Need-enum-told-4
+enum-told-4 c = search needs
+
+eb22-total-requires : tie.Need-eb22-total-requires
+unfolding eb22Totals
+eb22-total-requires c κs = rw (c .enum-told4 .given .1) at (c .before .before .pre)
+
+returns : tie.Need-returns
+returns c = rw (c .before .enum-told .given .1) (c .enrolment-total .ensures)
+
+returns-2 : tie.Need-returns-2
+returns-2 c = rw (c .before .enum-told2 .given .1) (c .enrolment-total2 .ensures)
+
+returns-3 : tie.Need-returns-3
+returns-3 c = rw (c .before .enum-told3 .given .1) (c .eb21-total .ensures)
+
+returns-4 : tie.Need-returns-4
+returns-4 c = rw (c .before .enum-told4 .given .1) (c .eb22-total .ensures)
+
+pub total-at-spec : {M : Type 1} → statement M
+total-at-spec =
+    tie.close
+    (tie.spec
+    enum-told
+    enrolment-total-requires
+    enum-told-2
+    enrolment-total-requires-2
+    enum-told-3
+    eb21-total-requires
+    enum-told-4
+    eb22-total-requires
+    returns
+    returns-2
+    returns-3
+    returns-4)

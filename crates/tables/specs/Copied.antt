@@ -1,0 +1,39 @@
+-- The items that a result copies: all data items but 1, 2, the result and, in debit, the amount.
+use Prim.Native.Nat.{ℕ}
+use mathlib.Core.Bool.{Bool, false, cond, _||_}
+use mathlib.Core.List.{List, [], _∷_}
+use lib.Dec.{eqb}
+use Rattle.tables.specs.declared.kinds.Kind.{Kind}
+use Rattle.tables.specs.declared.kinds.Kind.the-variants.{EB13, EB14, EB21, EB22}
+use Rattle.tables.specs.declared.rows.Row.{Row}
+use Rattle.tables.specs.declared.copied.Copied.{Copied}
+use Rattle.tables.specs.Tables.{eb13Data, eb21Data}
+
+-- item, start, length
+abbrev pub noItem : Copied
+noItem = record { 0 = 0; 1 = 0; 2 = 0 }
+
+unfoldable pub among : ℕ → List ℕ → Bool
+among n [] = false
+among n (m ∷ ms) = eqb n m || among n ms
+
+-- each item of the rows once, but those left out; `last` is the item before
+unfoldable pub itemsBut : List ℕ → ℕ → List Row → List Copied
+itemsBut out last [] = []
+itemsBut out last (r ∷ rows) =
+    cond (eqb (r .0) last || among (r .0) out) (itemsBut out last rows)
+    (record { 0 = r .0; 1 = r .1; 2 = r .2 } ∷ itemsBut out (r .0) rows)
+
+-- all but 1, 2 and the result, item 12
+unfoldable pub enrolmentCopied : List Copied
+enrolmentCopied = itemsBut (1 ∷ 2 ∷ 12 ∷ []) 0 eb13Data
+
+-- all but 1, 2, the amount, item 6, and the result, item 8
+unfoldable pub debitCopied : List Copied
+debitCopied = itemsBut (1 ∷ 2 ∷ 6 ∷ 8 ∷ []) 0 eb21Data
+
+abbrev pub copiedOf : Kind → List Copied
+copiedOf EB13 = enrolmentCopied
+copiedOf EB14 = enrolmentCopied
+copiedOf EB21 = debitCopied
+copiedOf EB22 = debitCopied

@@ -1,0 +1,7 @@
+-- The tables.
+pub mod Kinds
+pub mod Codes
+pub mod Rows
+pub mod Tables
+pub mod Totals
+pub mod Copied

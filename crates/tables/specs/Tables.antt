@@ -1,0 +1,196 @@
+-- The rows of every record of every kind: item, start, length, class, code.
+use mathlib.Core.List.{List, [], _∷_, _++_}
+use Prim.Native.Nat.{ℕ}
+use Rattle.tables.specs.declared.kinds.Kind.{Kind}
+use Rattle.tables.specs.declared.kinds.Kind.the-variants.{EB13, EB14, EB21, EB22}
+use Rattle.tables.specs.declared.kinds.Role.{Role}
+use Rattle.tables.specs.declared.kinds.Role.the-variants.{Header, Data, Trailer}
+use Rattle.tables.specs.declared.rows.Row.{Row}
+use Rattle.tables.specs.declared.rows.Class.the-variants.{Each, CodeText, Filled, Owner, Institution, KindName, Date, NameDate, Serial, AsHeader, NotLater, Application, NotZero, Failed, FailedOrPart, Least}
+use Rattle.tables.specs.Rows.{row, only, spaces, zeros, digits, free, passbook}
+
+-- codes as numbers; c0000 where breaking the rule is refusal 5
+abbrev c0000 : ℕ
+c0000 = 0x30303030
+
+abbrev c0011 : ℕ
+c0011 = 0x30303131
+
+abbrev c0061 : ℕ
+c0061 = 0x30303631
+
+abbrev c0068 : ℕ
+c0068 = 0x30303638
+
+abbrev c0075 : ℕ
+c0075 = 0x30303735
+
+abbrev c0081 : ℕ
+c0081 = 0x30303831
+
+abbrev c0088 : ℕ
+c0088 = 0x30303838
+
+abbrev c0089 : ℕ
+c0089 = 0x30303839
+
+abbrev c0090 : ℕ
+c0090 = 0x30303930
+
+abbrev c0098 : ℕ
+c0098 = 0x30303938
+
+abbrev c9998 : ℕ
+c9998 = 0x39393938
+
+abbrev cA011 : ℕ
+cA011 = 0x41303131
+
+abbrev cA012 : ℕ
+cA012 = 0x41303132
+
+-- header, all kinds
+unfoldable pub headerFront : List Row
+headerFront =
+    row 1 0 1 (only 0x48) c0081 ∷
+    row 2 1 8 zeros c0081 ∷
+    row 3 9 10 Institution c0088 ∷
+    row 4 19 4 KindName c0000 ∷
+    row 4 23 4 digits c0088 ∷
+    row 5 27 6 digits c0088 ∷
+    row 5 27 6 Date c9998 ∷
+    row 5 27 6 NameDate c0000 ∷
+    []
+
+unfoldable pub enrolmentHeader : List Row
+enrolmentHeader = headerFront ++ (row 6 33 87 spaces c0089 ∷ [])
+
+unfoldable pub debitHeader : List Row
+debitHeader = headerFront ++ (
+    row 6 33 7 digits c0011 ∷
+    row 7 40 16 Filled c0098 ∷
+    row 8 56 94 spaces c0089 ∷
+    [])
+
+-- every data record begins
+unfoldable pub dataFront : List Row
+dataFront =
+    row 1 0 1 (only 0x52) c0081 ∷
+    row 2 1 8 Serial c0081 ∷
+    row 3 9 10 AsHeader c0000 ∷
+    []
+
+-- EB13, EB14 data, but for item 12
+unfoldable pub enrolmentData : Row → List Row
+enrolmentData result = dataFront ++ (
+    row 4 19 6 NotLater cA011 ∷
+    row 5 25 1 Application cA012 ∷
+    row 6 26 20 Filled c0098 ∷
+    row 7 46 7 digits c0011 ∷
+    row 8 53 16 Filled c0098 ∷
+    row 9 69 16 Owner c0098 ∷
+    row 10 85 4 spaces c0089 ∷
+    row 11 89 2 CodeText c0098 ∷
+    result ∷
+    row 13 96 1 spaces c0089 ∷
+    row 14 97 12 free c0088 ∷
+    row 15 109 1 spaces c0089 ∷
+    row 16 110 10 spaces c0089 ∷
+    [])
+
+unfoldable pub eb13Data : List Row
+eb13Data = enrolmentData (row 12 91 5 spaces c0089)
+
+unfoldable pub eb14Data : List Row
+eb14Data = enrolmentData (row 12 91 5 Failed c0088)
+
+-- EB21, EB22 data, but for item 8 and what else item 13 asks
+unfoldable pub debitData : Row → List Row → List Row
+debitData result more = dataFront ++ (
+    row 4 19 7 digits c0011 ∷
+    row 5 26 16 Filled c0098 ∷
+    row 6 42 13 digits c0088 ∷
+    row 6 42 13 NotZero c0061 ∷
+    row 7 55 13 CodeText c0098 ∷
+    result ∷
+    row 9 73 16 passbook c0068 ∷
+    row 10 89 2 CodeText c0098 ∷
+    row 11 91 20 Filled c0098 ∷
+    row 12 111 5 free c0088 ∷
+    row 13 116 1 (Each 0x30 0x36) c0075 ∷
+    []) ++ (more ++ (
+    row 14 117 12 free c0088 ∷
+    row 15 129 21 spaces c0089 ∷
+    []))
+
+unfoldable pub eb21Data : List Row
+eb21Data = debitData (row 8 68 5 spaces c0089) (row 13 116 1 Least c0075 ∷ [])
+
+unfoldable pub eb22Data : List Row
+eb22Data = debitData (row 8 68 5 FailedOrPart c0088) []
+
+-- trailer, all kinds
+unfoldable pub trailerFront : List Row
+trailerFront =
+    row 1 0 1 (only 0x54) c0081 ∷
+    row 2 1 8 (only 0x39) c0081 ∷
+    row 3 9 10 AsHeader c0000 ∷
+    row 4 19 8 AsHeader c0000 ∷
+    row 5 27 8 digits c0088 ∷
+    []
+
+-- EB13, EB14, but for the MAC
+unfoldable pub enrolmentTrailer : Row → List Row
+enrolmentTrailer mac = trailerFront ++ (
+    row 6 35 8 digits c0088 ∷
+    row 7 43 8 zeros c0090 ∷
+    row 8 51 8 digits c0088 ∷
+    row 9 59 8 digits c0088 ∷
+    row 10 67 43 spaces c0089 ∷
+    mac ∷
+    [])
+
+unfoldable pub eb13Trailer : List Row
+eb13Trailer = enrolmentTrailer (row 11 110 10 spaces c0089)
+
+unfoldable pub eb14Trailer : List Row
+eb14Trailer = enrolmentTrailer (row 11 110 10 free c0088)
+
+unfoldable pub eb21Trailer : List Row
+eb21Trailer = trailerFront ++ (
+    row 6 35 8 digits c0088 ∷
+    row 7 43 13 digits c0088 ∷
+    row 8 56 8 zeros c0090 ∷
+    row 9 64 13 zeros c0090 ∷
+    row 10 77 63 spaces c0089 ∷
+    row 11 140 10 spaces c0089 ∷
+    [])
+
+unfoldable pub eb22Trailer : List Row
+eb22Trailer = trailerFront ++ (
+    row 6 35 8 digits c0088 ∷
+    row 7 43 13 digits c0088 ∷
+    row 8 56 8 digits c0088 ∷
+    row 9 64 13 digits c0088 ∷
+    row 10 77 8 digits c0088 ∷
+    row 11 85 4 zeros c0090 ∷
+    row 12 89 11 digits c0088 ∷
+    row 13 100 11 zeros c0090 ∷
+    row 14 111 29 spaces c0089 ∷
+    row 15 140 10 free c0088 ∷
+    [])
+
+-- the rows of each record of each kind
+abbrev pub rowsOf : Kind → Role → List Row
+rowsOf EB13 Header = enrolmentHeader
+rowsOf EB13 Data = eb13Data
+rowsOf EB13 Trailer = eb13Trailer
+rowsOf EB14 Header = enrolmentHeader
+rowsOf EB14 Data = eb14Data
+rowsOf EB14 Trailer = eb14Trailer
+rowsOf EB21 Header = debitHeader
+rowsOf EB21 Data = eb21Data
+rowsOf EB21 Trailer = eb21Trailer
+rowsOf EB22 Header = debitHeader
+rowsOf EB22 Data = eb22Data
+rowsOf EB22 Trailer = eb22Trailer

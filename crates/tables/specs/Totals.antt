@@ -1,0 +1,47 @@
+-- The trailer's totals: item, start, length, and the quantity that the item must say.
+use Prim.Native.Nat.{ℕ}
+use mathlib.Core.List.{List, [], _∷_}
+use Rattle.tables.specs.declared.kinds.Kind.{Kind}
+use Rattle.tables.specs.declared.kinds.Kind.the-variants.{EB13, EB14, EB21, EB22}
+use Rattle.tables.specs.declared.totals.Total.{Total}
+use Rattle.tables.specs.declared.totals.Quantity.{Quantity}
+use Rattle.tables.specs.declared.totals.Quantity.the-variants.{Records, OfKind, Amounts, Marked, AmountsMarked}
+
+abbrev pub total : ℕ → ℕ → ℕ → Quantity → Total
+total item start size quantity = record { 0 = item; 1 = start; 2 = size; 3 = quantity }
+
+abbrev pub noTotal : Total
+noTotal = total 0 0 0 Records
+
+-- EB13, EB14: n; records of kinds "1", "3", "7"
+unfoldable pub enrolmentTotals : List Total
+enrolmentTotals =
+    total 5 27 8 Records ∷
+    total 6 35 8 (OfKind 0x31) ∷
+    total 8 51 8 (OfKind 0x33) ∷
+    total 9 59 8 (OfKind 0x37) ∷
+    []
+
+-- EB21: n twice; the sum of amounts
+unfoldable pub eb21Totals : List Total
+eb21Totals =
+    total 5 27 8 Records ∷
+    total 6 35 8 Records ∷
+    total 7 43 13 Amounts ∷
+    []
+
+-- EB22: n; count and sum of "N" records, count and sum of "P" records
+unfoldable pub eb22Totals : List Total
+eb22Totals =
+    total 5 27 8 Records ∷
+    total 6 35 8 (Marked 0x4E) ∷
+    total 7 43 13 (AmountsMarked 0x4E) ∷
+    total 8 56 8 (Marked 0x50) ∷
+    total 9 64 13 (AmountsMarked 0x50) ∷
+    []
+
+abbrev pub totalsOf : Kind → List Total
+totalsOf EB13 = enrolmentTotals
+totalsOf EB14 = enrolmentTotals
+totalsOf EB21 = eb21Totals
+totalsOf EB22 = eb22Totals

@@ -1,0 +1,7 @@
+// The tables: kinds with their fixed numbers, the rows of every record, totals, copied items, failure codes.
+pub mod codes;
+pub mod copied;
+pub mod kinds;
+pub mod records;
+pub mod rows;
+pub mod totals;

@@ -1,0 +1,90 @@
+// The trailer's totals: rows of item, start, length and the quantity that the item must say.
+ghost use mathlib.Core.Path.{_≡_};
+ghost use Prim.Native.Nat.{_<_};
+ghost use lib.ListN.{length, getD};
+ghost use Rattle.tables.specs.Totals.{noTotal, enrolmentTotals, eb21Totals, eb22Totals, totalsOf};
+use crate::kinds::Kind;
+
+// What the data records give.
+pub enum Quantity {
+    // how many there are
+    Records,
+    // how many are of an application kind
+    OfKind(u8),
+    // the sum of their amounts
+    Amounts,
+    // how many have a mark
+    Marked(u8),
+    // the sum of the amounts of those that have a mark
+    AmountsMarked(u8),
+}
+
+// Item, start, length, quantity.
+pub struct Total(pub u64, pub usize, pub usize, pub Quantity);
+
+const ENROLMENT_TOTALS: [Total; 4] = [
+    Total(5, 27, 8, Quantity::Records),
+    Total(6, 35, 8, Quantity::OfKind(b'1')),
+    Total(8, 51, 8, Quantity::OfKind(b'3')),
+    Total(9, 59, 8, Quantity::OfKind(b'7')),
+];
+
+const EB21_TOTALS: [Total; 3] = [
+    Total(5, 27, 8, Quantity::Records),
+    Total(6, 35, 8, Quantity::Records),
+    Total(7, 43, 13, Quantity::Amounts),
+];
+
+const EB22_TOTALS: [Total; 5] = [
+    Total(5, 27, 8, Quantity::Records),
+    Total(6, 35, 8, Quantity::Marked(b'N')),
+    Total(7, 43, 13, Quantity::AmountsMarked(b'N')),
+    Total(8, 56, 8, Quantity::Marked(b'P')),
+    Total(9, 64, 13, Quantity::AmountsMarked(b'P')),
+];
+
+fn enrolment_total(i: usize) -> Total
+    requires { ⌜ i < 4 ⌝ }
+    ensures { λ r. ⌜ r ≡ getD enrolmentTotals i noTotal ⌝ }
+{
+    ENROLMENT_TOTALS[i]
+}
+
+fn eb21_total(i: usize) -> Total
+    requires { ⌜ i < 3 ⌝ }
+    ensures { λ r. ⌜ r ≡ getD eb21Totals i noTotal ⌝ }
+{
+    EB21_TOTALS[i]
+}
+
+fn eb22_total(i: usize) -> Total
+    requires { ⌜ i < 5 ⌝ }
+    ensures { λ r. ⌜ r ≡ getD eb22Totals i noTotal ⌝ }
+{
+    EB22_TOTALS[i]
+}
+
+// How many totals the trailer has.
+pub fn total_count(kind: Kind) -> usize
+    ensures { λ r. ⌜ r ≡ length (totalsOf kind) ⌝ }
+{
+    match kind {
+        Kind::EB13 => ENROLMENT_TOTALS.len(),
+        Kind::EB14 => ENROLMENT_TOTALS.len(),
+        Kind::EB21 => EB21_TOTALS.len(),
+        Kind::EB22 => EB22_TOTALS.len(),
+    }
+}
+
+// Total i of the trailer.
+pub fn total_at(kind: Kind, i: usize) -> Total
+    requires { ⌜ i < length (totalsOf kind) ⌝ }
+    ensures { λ r. ⌜ r ≡ getD (totalsOf kind) i noTotal ⌝ }
+{
+    match kind {
+        Kind::EB13 => enrolment_total(i),
+        Kind::EB14 => enrolment_total(i),
+        Kind::EB21 => eb21_total(i),
+        Kind::EB22 => eb22_total(i),
+    }
+}

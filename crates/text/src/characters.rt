@@ -1,0 +1,67 @@
+// The character classes, all from one loop: how many bytes in front a set takes.
+ghost use mathlib.Core.Path.{_≡_};
+ghost use Prim.Native.Nat.{_≤_};
+ghost use lib.ListN.{length};
+ghost use Rattle.text.specs.Characters.{within, takes, front, each, codeText, filled};
+use crate::parts;
+
+// The bytes from a low one to a high one; or digits and capitals.
+enum Set {
+    From(u8, u8),
+    Code,
+}
+
+// The byte is one from low to high.
+pub(crate) fn within(low: u8, high: u8, b: u8) -> bool
+    ensures { λ r. ⌜ r ≡ within low high b ⌝ }
+{
+    low <= b && b <= high
+}
+
+fn takes(set: Set, b: u8) -> bool
+    ensures { λ r. ⌜ r ≡ takes set b ⌝ }
+{
+    match set {
+        Set::From(low, high) => within(low, high, b),
+        Set::Code => within(b'0', b'9', b) || within(b'A', b'Z', b),
+    }
+}
+
+// How many bytes in front of s the set takes.
+fn front(set: Set, s: &[u8]) -> usize
+    ensures { λ r. ⌜ r ≡ front set (now (s .entry)) ⌝ }
+    ensures { λ r. ⌜ r ≤ length (now (s .entry)) ⌝ }
+{
+    let mut i = 0;
+    while i < s.len() {
+        if !takes(set, s[i]) {
+            return i;
+        }
+        i += 1;
+    }
+    i
+}
+
+// Every byte of s is one from low to high.
+pub fn each(low: u8, high: u8, s: &[u8]) -> bool
+    ensures { λ r. ⌜ r ≡ each low high (now (s .entry)) ⌝ }
+{
+    front(Set::From(low, high), s) == s.len()
+}
+
+// Digits and capitals, then only spaces.
+pub fn code_text(s: &[u8]) -> bool
+    ensures { λ r. ⌜ r ≡ codeText (now (s .entry)) ⌝ }
+{
+    each(b' ', b' ', parts::rest(s, front(Set::Code, s)))
+}
+
+// Code text with at least one character before the spaces.
+pub fn filled(s: &[u8]) -> bool
+    ensures { λ r. ⌜ r ≡ filled (now (s .entry)) ⌝ }
+{
+    if front(Set::Code, s) == 0 {
+        return false;
+    }
+    code_text(s)
+}

@@ -1,0 +1,59 @@
+// Numbers that bytes say: in base ten, and four letters as one number.
+ghost use mathlib.Core.Path.{_≡_};
+ghost use Prim.Native.Nat.{_≤_, _<_};
+ghost use lib.ListN.{length, getD};
+ghost use Rattle.text.specs.Numbers.{digitOf, valueOf, says, wordOf};
+use crate::characters;
+use crate::parts;
+
+// What one byte counts: a digit its number, any other byte 0.
+fn digit(b: u8) -> u64
+    ensures { λ r. ⌜ r ≡ digitOf b ⌝ }
+    ensures { λ r. ⌜ r ≤ 9 ⌝ }
+{
+    if characters::within(b'0', b'9', b) {
+        return (b - b'0') as u64;
+    }
+    0
+}
+
+// The number that s says in base ten.
+pub fn number(s: &[u8]) -> u64
+    requires { ⌜ length (now s) ≤ 19 ⌝ }
+    ensures { λ r. ⌜ r ≡ valueOf (now (s .entry)) ⌝ }
+{
+    let mut n: u64 = 0;
+    let mut i = 0;
+    while i < s.len() {
+        n = n * 10 + digit(s[i]);
+        i += 1;
+    }
+    n
+}
+
+// s is digits, at most 19 of them, that say n.
+pub fn says(s: &[u8], n: u64) -> bool
+    ensures { λ r. ⌜ r ≡ says (now (s .entry)) n ⌝ }
+{
+    if 19 < s.len() {
+        return false;
+    }
+    if characters::each(b'0', b'9', s) {
+        return number(s) == n;
+    }
+    false
+}
+
+// The first four bytes of s as one number, the first of them highest.
+pub fn word(s: &[u8]) -> u64
+    ensures { λ r. ⌜ r ≡ wordOf (now (s .entry)) ⌝ }
+{
+    ((wide(s, 0) * 256 + wide(s, 1)) * 256 + wide(s, 2)) * 256 + wide(s, 3)
+}
+
+fn wide(s: &[u8], at: usize) -> u64
+    ensures { λ r. ⌜ r ≡ getD (now (s .entry)) at 0 ⌝ }
+    ensures { λ r. ⌜ r < 256 ⌝ }
+{
+    parts::byte(s, at) as u64
+}
