@@ -4,3 +4,4 @@ pub mod Leasts
 pub mod Sums
 pub mod Parts
 pub mod Every
+pub mod Joins

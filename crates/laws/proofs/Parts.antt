@@ -3,7 +3,7 @@
 use Prim.Native.Nat.{ℕ, zero, suc, _+_, _-_, _≤_, _<_}
 use mathlib.Core.Bool.{true, false}
 use mathlib.Core.List.{List, [], _∷_}
-use mathlib.Core.Path.{_≡_, refl}
+use mathlib.Core.Path.{_≡_, refl, sym, _∙_}
 use native.Mathlib.Nat.{le-of-suc-le-suc, not-suc-le-zero}
 use native.Mathlib.Omega.{arith}
 use borrow.Author.Tests.{eqb-true, eq-eqb, ne-eqb, not-false}
@@ -70,3 +70,18 @@ module _ (a b : List ℕ) (long : length a ≡ length b) where
   pub same-end : least (differ a b) (length a) ≡ length a → same a b ≡ true
   unfolding same
   same-end e = rw (eq-eqb (length a) (length b) long, none-true (differ a b) (length a) e)
+
+-- a part that ends before a cut is a part of what is cut off
+pub part-take : (a b m : ℕ) (s : List ℕ) → a + b ≤ m → m ≤ length s → part a b (take m s) ≡ part a b s
+part-take a b m s h g = ext-getD 0 (part a b (take m s)) (part a b s) (here ∙ sym there) same-at
+  where
+    here : length (part a b (take m s)) ≡ b
+    here = part-length a b (take m s) (rw (length-take-le m s g) h)
+
+    there : length (part a b s) ≡ b
+    there = part-length a b s (omega arith)
+
+    same-at : (i : ℕ) → i < length (part a b (take m s)) → getD (part a b (take m s)) i 0 ≡ getD (part a b s) i 0
+    same-at i l =
+        let k : i < b = omega (arith, here) in
+        rw (part-at a b (take m s) i k, part-at a b s i k) (getD-take m s (a + i) 0 (omega arith))

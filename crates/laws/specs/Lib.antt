@@ -2,3 +2,4 @@
 pub mod Least
 pub mod Sum
 pub mod Part
+pub mod Joined

@@ -1,9 +1,9 @@
 -- What an answer on a record says of its rows.
 -- Assumes nothing.
 use Prim.Native.Nat.{ℕ, _<_}
-use mathlib.Core.Bool.{Bool, true, false, cond}
+use mathlib.Core.Bool.{true, false, cond}
 use mathlib.Core.List.{List}
-use mathlib.Core.Path.{_≡_, refl, ap, sym, _∙_}
+use mathlib.Core.Path.{_≡_, ap, sym, _∙_}
 use mathlib.Core.Logic.{_↔_, ⊎-elim}
 use native.Mathlib.Omega.{arith}
 use lib.Dec.{eqb}
@@ -12,7 +12,6 @@ use Rattle.laws.proofs.Bools.{either}
 use Rattle.layout.specs.declared.answers.Answer.{Answer}
 use Rattle.tables.specs.declared.kinds.Kind.{Kind}
 use Rattle.tables.specs.declared.rows.Row.{Row}
-use Rattle.layout.specs.Answers.{accepted}
 use Rattle.tables.specs.Rows.{blank}
 use Rattle.layout.specs.Rules.{holds}
 use Rattle.layout.specs.Judging.{brokenAt, rowTells, judgeBy}

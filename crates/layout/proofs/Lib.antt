@@ -1,4 +1,3 @@
 -- Laws about the definitions of specs/.
 pub mod Told
 pub mod Judged
-pub mod Marking

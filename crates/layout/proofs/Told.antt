@@ -1,13 +1,14 @@
 -- The laws of the first refusal among answers: the loop, and what it says of each.
 -- Assumes nothing.
 use Prim.Native.Nat.{ℕ, _+_, _<_}
-use mathlib.Core.Bool.{Bool, true, false}
-use mathlib.Core.Path.{_≡_, refl, sym, _∙_, ap}
-use mathlib.Core.Logic.{_↔_, ⊎-elim, _⊎_, inl, inr}
+use mathlib.Core.Bool.{true, false}
+use mathlib.Core.Path.{_≡_, sym, _∙_, ap}
+use mathlib.Core.Logic.{⊎-elim, _⊎_, inl, inr}
 use native.Mathlib.Nat.{le-refl, eq-or-lt-of-le}
 use borrow.Author.Tests.{lt-ltb, le-ltb, not-false, not-true, eqb-true, eqb-false, eq-eqb, ne-eqb}
 use Rattle.laws.specs.Least.{least}
-use Rattle.laws.proofs.Leasts.{least-is, least-more, least-stop, least-none, least-again, least-before}
+use Rattle.laws.proofs.Bools.{either}
+use Rattle.laws.proofs.Leasts.{least-is, least-more, least-stop, least-again, least-before}
 use Rattle.layout.specs.declared.answers.Answer.{Answer}
 use Rattle.layout.specs.Answers.{accepted, refuses, refusesAt, toldAt, firstTold, _then_}
 
@@ -36,6 +37,16 @@ then-first a b ne = rw (refuses-is a ne)
 pub then-second : (a b : Answer) → a .number ≡ 0 → (a then b) ≡ b
 unfolding _then_
 then-second a b e = rw (refuses-not a e)
+
+-- both are good where neither refuses
+pub then-zero : (a b : Answer) → (a then b) .number ≡ 0 → (a .number ≡ 0) × (b .number ≡ 0)
+then-zero a b e = ⊎-elim bad good (either (refuses a))
+  where
+    bad : refuses a ≡ true → (a .number ≡ 0) × (b .number ≡ 0)
+    bad t = absurd (refuses-other a t (ap (λ (x : Answer). x .number) (sym (then-first a b (refuses-other a t))) ∙ e))
+
+    good : refuses a ≡ false → (a .number ≡ 0) × (b .number ≡ 0)
+    good f = (refuses-zero a f, ap (λ (x : Answer). x .number) (sym (then-second a b (refuses-zero a f))) ∙ e)
 
 module _ (f : ℕ → Answer) where
   -- the loop: no refusal before i so far

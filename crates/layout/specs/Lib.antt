@@ -3,4 +3,3 @@ pub mod Answers
 pub mod Items
 pub mod Rules
 pub mod Judging
-pub mod Marked

@@ -6,7 +6,7 @@ use lib.Dec.{leb, eqb}
 use lib.ListN.{getD, drop}
 use Rattle.laws.specs.Part.{part, same}
 use Rattle.text.specs.Characters.{each, codeText, filled, digits, zeros}
-use Rattle.text.specs.Numbers.{valueOf, says, wordOf}
+use Rattle.text.specs.Numbers.{says, wordOf}
 use Rattle.text.specs.Dates.{isDate, notLater}
 use Rattle.tables.specs.declared.kinds.Kind.{Kind}
 use Rattle.tables.specs.declared.rows.Row.{Row}

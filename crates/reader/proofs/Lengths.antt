@@ -17,12 +17,7 @@ use Rattle.layout.specs.Answers.{accepted, refused}
 use Rattle.tables.specs.Kinds.{fixedOf, limit}
 use Rattle.reader.specs.Records.{countOf}
 use Rattle.reader.specs.Reading.{isWhole, lengthTells}
-
--- whole records, at least two, at most the limit and two
-pub record Lengths (k : Kind) (s : List ℕ) : Type 0 where
-  pub whole : length s ≡ countOf k s * fixedOf k .size
-  pub fewest : 2 ≤ countOf k s
-  pub most : countOf k s ≤ limit + 2
+use Rattle.reader.specs.Meets.{Lengths}
 
 module _ (k : Kind) (s : List ℕ) where
   whole-even : isWhole k s ≡ true → length s ≡ countOf k s * fixedOf k .size

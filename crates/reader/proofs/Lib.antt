@@ -1,3 +1,8 @@
 -- Laws about the definitions of specs/.
 pub mod Places
 pub mod Lengths
+pub mod Stages
+pub mod Exact
+pub mod Cut
+pub mod Accepted
+pub mod Marking

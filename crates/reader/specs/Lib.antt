@@ -3,5 +3,7 @@ pub mod Records
 pub mod Totals
 pub mod Keys
 pub mod Reading
-
-
+pub mod Meets
+pub mod First
+pub mod Samples
+pub mod Marked

@@ -9,7 +9,7 @@ use Rattle.tables.specs.Kinds.{fixedOf}
 use Rattle.tables.specs.Tables.{rowsOf}
 use borrow.Author.Needs.{needs}
 use lib.ListN.{length}
-use mathlib.Core.Path.{_≡_, sym, _∙_, ap}
+use mathlib.Core.Path.{_≡_, sym}
 use native.Mathlib.Nat.{le-antisymm}
 use native.Mathlib.Omega.{arith}
 use Rattle.layout.proofs.judging.judge.Statement.{statement}

@@ -4,9 +4,8 @@ use Rattle.laws.proofs.Leasts.{least-start, least-more, least-stop, some-true, 
 use Rattle.laws.specs.Least.{least}
 use Rattle.reader.specs.Keys.{sharesKey, repeats}
 use borrow.Author.Needs.{needs}
-use mathlib.Core.Path.{_≡_, sym, _∙_, ap}
+use mathlib.Core.Path.{_≡_, sym}
 use native.Mathlib.Nat.{le-antisymm}
-use native.Mathlib.Omega.{arith}
 use Rattle.reader.proofs.keys.first_repeat.Statement.{statement}
 use Rattle.reader.proofs.keys.first_repeat.Tie as tie
 

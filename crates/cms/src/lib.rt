@@ -1,0 +1,3 @@
+// The face for C: numbers and slices in, numbers out. No rule of its own.
+pub mod read;
+mod telling;

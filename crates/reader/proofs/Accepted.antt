@@ -1,0 +1,56 @@
+-- What is known of an accepted file, for the crates above: nobody unfolds reading again.
+-- Assumes nothing.
+use Prim.Native.Nat.{ℕ, _<_}
+use mathlib.Core.Bool.{true, _&&_}
+use mathlib.Core.List.{List}
+use mathlib.Core.Path.{_≡_, refl}
+use native.Mathlib.Omega.{arith}
+use borrow.Author.Tests.{eqb-true}
+use lib.Dec.{leb, eqb}
+use lib.ListN.{length, getD}
+use Rattle.laws.specs.Part.{part}
+use Rattle.laws.proofs.Bools.{and-right}
+use Rattle.text.specs.Characters.{digits}
+use Rattle.text.specs.Numbers.{valueOf, says}
+use Rattle.tables.specs.declared.kinds.Kind.{Kind}
+use Rattle.tables.specs.declared.kinds.Named.{Named}
+use Rattle.tables.specs.declared.kinds.Named.the-variants.{Is, Unknown}
+use Rattle.tables.specs.Kinds.{kindOf}
+use Rattle.tables.specs.Totals.{noTotal, totalsOf}
+use Rattle.reader.specs.Records.{trailerOf}
+use Rattle.reader.specs.Totals.{quantityOf, totalHolds}
+use Rattle.reader.specs.Reading.{readAs, readNamed, readOf}
+use Rattle.reader.specs.Meets.{Meets}
+use Rattle.reader.proofs.Exact.{accepted-meets}
+
+-- digits that say a number have it as their value
+pub says-value : (s : List ℕ) (n : ℕ) → says s n ≡ true → valueOf s ≡ n
+unfolding says
+says-value s n t =
+    eqb-true (valueOf s) n (and-right (digits s) (eqb (valueOf s) n) (and-right (leb (length s) 19) (digits s && eqb (valueOf s) n) t))
+
+-- the value of a total of an accepted file is what its records give
+pub total-value :
+    (k : Kind) (s : List ℕ) → Meets k s → (j : ℕ) → j < length (totalsOf k) →
+    valueOf (part (getD (totalsOf k) j noTotal .1) (getD (totalsOf k) j noTotal .2) (trailerOf k s)) ≡ quantityOf k s (getD (totalsOf k) j noTotal .3)
+unfolding totalHolds
+total-value k s m j h = says-value _ (quantityOf k s (getD (totalsOf k) j noTotal .3)) (m .totals j h)
+
+-- a file that is accepted under a number is one of the kind that the number names
+pub record Known (kind : ℕ) (s : List ℕ) : Type 0 where
+  pub k : Kind
+  pub named : kindOf kind ≡ Is k
+  pub meets : Meets k s
+
+named-known : (kind : ℕ) (s : List ℕ) (n : Named) → kindOf kind ≡ n → readNamed n s .number ≡ 0 → Known kind s
+named-known kind s (Is k) e z = record { k = k; named = e; meets = accepted-meets k s z }
+named-known kind s Unknown e z = absurd (omega arith)
+
+pub read-known : (kind : ℕ) (s : List ℕ) → readOf kind s .number ≡ 0 → Known kind s
+unfolding readOf
+read-known kind s z = named-known kind s (kindOf kind) refl z
+
+-- a known kind is read as it is
+pub read-named : (kind : ℕ) (s : List ℕ) (k : Kind) → kindOf kind ≡ Is k → readOf kind s ≡ readAs k s
+unfolding readOf
+read-named kind s k e = rw e

@@ -1,0 +1,29 @@
+/* Files of the Korean CMS direct debit service, read whole or not at all.
+ *
+ * A kind is its four letters as one big-endian number: "EB21" is 0x45423231.
+ * A code is its four bytes in the same way: "0000" is 0x30303030.
+ * A slice is a pointer and its length. Nothing is kept after a call returns. */
+#ifndef CMS_H
+#define CMS_H
+
+#include <stddef.h>
+#include <stdint.h>
+
+#ifdef __cplusplus
+extern "C" {
+#endif
+
+#define CMS_EB13 UINT32_C(0x45423133)
+#define CMS_EB14 UINT32_C(0x45423134)
+#define CMS_EB21 UINT32_C(0x45423231)
+#define CMS_EB22 UINT32_C(0x45423232)
+
+/* Reads the file as one of the kind. Returns the refusal's number, 0 when accepted, and stores
+ * side, number, record, item and code in answer[0] to answer[4]. Any kind, any bytes, any length. */
+uint64_t cms_read(uint32_t kind, const uint8_t *file, size_t file_length, uint64_t answer[5]);
+
+#ifdef __cplusplus
+}
+#endif
+
+#endif
