@@ -3,7 +3,7 @@
 use Prim.Native.Nat.{ℕ, zero, suc, _+_, _-_, _≤_, _<_}
 use mathlib.Core.Bool.{true, false}
 use mathlib.Core.List.{List, [], _∷_}
-use mathlib.Core.Path.{_≡_, refl, sym, _∙_}
+use mathlib.Core.Path.{_≡_, refl, sym, _∙_, ap}
 use native.Mathlib.Nat.{le-of-suc-le-suc, not-suc-le-zero}
 use native.Mathlib.Omega.{arith}
 use borrow.Author.Tests.{eqb-true, eq-eqb, ne-eqb, not-false}
@@ -85,3 +85,19 @@ part-take a b m s h g = ext-getD 0 (part a b (take m s)) (part a b s) (here ∙ 
     same-at i l =
         let k : i < b = omega (arith, here) in
         rw (part-at a b (take m s) i k, part-at a b s i k) (getD-take m s (a + i) 0 (omega arith))
+
+-- a part of a part
+pub part-part : (a b c d : ℕ) (s : List ℕ) → a + b ≤ d → c + d ≤ length s → part a b (part c d s) ≡ part (c + a) b s
+part-part a b c d s h g = ext-getD 0 (part a b (part c d s)) (part (c + a) b s) (here ∙ sym there) same-at
+  where
+    here : length (part a b (part c d s)) ≡ b
+    here = part-length a b (part c d s) (rw (part-length c d s g) h)
+
+    there : length (part (c + a) b s) ≡ b
+    there = part-length (c + a) b s (omega arith)
+
+    same-at : (i : ℕ) → i < length (part a b (part c d s)) → getD (part a b (part c d s)) i 0 ≡ getD (part (c + a) b s) i 0
+    same-at i l =
+        let k : i < b = omega (arith, here) in
+        rw (part-at a b (part c d s) i k, part-at c d s (a + i) (omega arith), part-at (c + a) b s i k)
+        (ap (λ (x : ℕ). getD s x 0) (omega arith))

@@ -3,20 +3,26 @@
 use Prim.Native.Nat.{ℕ, _+_, _*_, _≤_, _<_}
 use mathlib.Core.List.{List}
 use mathlib.Core.Bool.{true}
-use mathlib.Core.Path.{_≡_, refl}
+use mathlib.Core.Path.{_≡_, refl, _∙_, ap}
 use native.Mathlib.Nat.{le-trans, suc-mul, mul-le-mul-right, div-mul-le-self, div-le-self}
+use native.Mathlib.Numerals.{add-one}
 use native.Mathlib.Omega.{arith}
 use borrow.Author.Tests.{leb-true}
-use lib.Dec.{leb}
+use lib.Dec.{leb, ltb}
 use lib.ListN.{length, getD}
+use Rattle.laws.specs.Least.{least, some}
+use Rattle.laws.specs.Part.{part}
 use Rattle.laws.proofs.Every.{every, every-at}
+use Rattle.laws.proofs.Leasts.{least-same}
+use Rattle.laws.proofs.Parts.{part-part}
 use Rattle.tables.specs.declared.kinds.Kind.{Kind}
 use Rattle.tables.specs.declared.kinds.Kind.the-variants.{EB13, EB14, EB21, EB22}
 use Rattle.tables.specs.declared.totals.Total.{Total}
 use Rattle.tables.specs.Kinds.{fixedOf}
 use Rattle.tables.specs.Totals.{noTotal, enrolmentTotals, eb21Totals, eb22Totals, totalsOf}
 use Rattle.tables.proofs.Tiling.{size-least}
-use Rattle.reader.specs.Records.{countOf}
+use Rattle.reader.specs.Records.{recordAt, countOf}
+use Rattle.reader.specs.Keys.{keyIn, sharesIn, repeatsIn, keyAt, sharesKey, repeats}
 
 -- record i of a file lies inside it
 pub record-inside : (k : Kind) (s : List ℕ) (i : ℕ) → i < countOf k s → i * fixedOf k .size + fixedOf k .size ≤ length s
@@ -50,3 +56,30 @@ totals-inside EB22 = refl
 
 pub total-inside : (k : Kind) (j : ℕ) → j < length (totalsOf k) → getD (totalsOf k) j noTotal .1 + getD (totalsOf k) j noTotal .2 ≤ 120
 total-inside k j h = leb-true _ 120 (every-at (λ (t : Total). leb (t .1 + t .2) 120) (totalsOf k) (totals-inside k) j noTotal h)
+
+-- the key of data record i + 1 by its place in the file
+pub key-place :
+    (k : Kind) (s : List ℕ) (i : ℕ) → i + 1 < countOf k s →
+    keyAt k s i ≡ keyIn (fixedOf k .size) (fixedOf k .size + fixedOf k .key .start) (fixedOf k .key .size) s i
+unfolding keyAt keyIn recordAt
+key-place k s i h =
+    part-part (fixedOf k .key .start) (fixedOf k .key .size) ((i + 1) * fixedOf k .size) (fixedOf k .size) s (key-inside k) (record-inside k s (i + 1) h) ∙
+    ap (λ (a : ℕ). part a (fixedOf k .key .size) s) (rw (add-one, suc-mul) (omega arith))
+
+pub repeat-place :
+    (k : Kind) (s : List ℕ) (i : ℕ) → i + 1 < countOf k s →
+    repeatsIn (fixedOf k .size) (fixedOf k .size + fixedOf k .key .start) (fixedOf k .key .size) s i ≡ repeats k s i
+unfolding repeats repeatsIn sharesKey sharesIn some
+repeat-place k s i h =
+    ap (λ (m : ℕ). ltb m i)
+    (least-same _ _ i (λ j l. rw (← key-place k s i h, ← key-place k s j (omega arith))))
+
+pub first-place :
+    (k : Kind) (s : List ℕ) (n : ℕ) → n + 2 ≤ countOf k s →
+    least (repeatsIn (fixedOf k .size) (fixedOf k .size + fixedOf k .key .start) (fixedOf k .key .size) s) n ≡ least (repeats k s) n
+first-place k s n h = least-same _ _ n (λ i l. repeat-place k s i (omega arith))
+
+pub key-fits :
+    (k : Kind) (s : List ℕ) (n : ℕ) → n + 2 ≤ countOf k s → (i : ℕ) → i < n →
+    i * fixedOf k .size + (fixedOf k .size + fixedOf k .key .start) + fixedOf k .key .size ≤ length s
+key-fits k s n h i l = omega (arith, rw (add-one, suc-mul) at (record-inside k s (i + 1) (omega arith)), key-inside k)

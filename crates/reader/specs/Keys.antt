@@ -1,5 +1,5 @@
 -- No two data records share a key.
-use Prim.Native.Nat.{ℕ, _+_}
+use Prim.Native.Nat.{ℕ, _+_, _*_}
 use mathlib.Core.Bool.{Bool, cond}
 use mathlib.Core.List.{List}
 use lib.Dec.{ltb}
@@ -10,6 +10,16 @@ use Rattle.tables.specs.declared.kinds.Kind.{Kind}
 use Rattle.layout.specs.Answers.{accepted, refusedAt}
 use Rattle.tables.specs.Kinds.{fixedOf}
 use Rattle.reader.specs.Records.{recordOf, dataOf}
+
+-- keys of one size at a fixed distance from each other: key i of s, whether keys i and j are the same, whether key i is an earlier one
+unfoldable pub keyIn : ℕ → ℕ → ℕ → List ℕ → ℕ → List ℕ
+keyIn stride offset size s i = part (i * stride + offset) size s
+
+unfoldable pub sharesIn : ℕ → ℕ → ℕ → List ℕ → ℕ → ℕ → Bool
+sharesIn stride offset size s i j = same (keyIn stride offset size s i) (keyIn stride offset size s j)
+
+unfoldable pub repeatsIn : ℕ → ℕ → ℕ → List ℕ → ℕ → Bool
+repeatsIn stride offset size s i = some (sharesIn stride offset size s i) i
 
 -- the key of data record i + 1
 unfoldable pub keyAt : Kind → List ℕ → ℕ → List ℕ

@@ -1,42 +1,37 @@
 // No two data records share a key.
 ghost use mathlib.Core.Path.{_≡_};
-ghost use Prim.Native.Nat.{_+_, _≤_, _<_};
+ghost use Prim.Native.Nat.{ℕ, _+_, _*_, _≤_, _<_};
+ghost use lib.ListN.{length};
 ghost use Rattle.laws.specs.Least.{least};
+ghost use Rattle.laws.specs.Part.{part, same};
 ghost use Rattle.reader.specs.Records.{countOf};
-ghost use Rattle.reader.specs.Keys.{keyAt, sharesKey, repeats, keysTell};
+ghost use Rattle.reader.specs.Keys.{repeatsIn, keysTell};
 use crate::records;
 use layout::answers::Answer;
 use tables::kinds::Fixed;
 use tables::kinds::Kind;
 use text::parts;
 
-// The key of data record i + 1.
-pub fn key_at(kind: Kind, file: &[u8], i: usize) -> &[u8]
-    requires { ⌜ i + 1 < countOf kind (now file) ⌝ }
-    ensures { λ r. ⌜ now r ≡ keyAt kind (now (file .entry)) i ⌝ }
+// The keys at two places of s are the same.
+fn shares(s: &[u8], a: usize, b: usize, size: usize) -> bool
+    requires { ⌜ a + size ≤ length (now s) ⌝ }
+    requires { ⌜ b + size ≤ length (now s) ⌝ }
+    ensures { λ r. ⌜ r ≡ same (part a size (now (s .entry))) (part b size (now (s .entry))) ⌝ }
 {
-    let key = Fixed::of(kind).key;
-    parts::part(records::record_of(kind, file, i + 1), key.start, key.size)
+    parts::same(parts::part(s, a, size), parts::part(s, b, size))
 }
 
-fn shares_key(kind: Kind, file: &[u8], i: usize, j: usize) -> bool
-    requires { ⌜ i + 1 < countOf kind (now file) ⌝ }
-    requires { ⌜ j + 1 < countOf kind (now file) ⌝ }
-    ensures { λ r. ⌜ r ≡ sharesKey kind (now (file .entry)) i j ⌝ }
-{
-    parts::same(key_at(kind, file, i), key_at(kind, file, j))
-}
-
-// The first data record that repeats an earlier key, from 0; or their number.
-fn first_repeat(kind: Kind, file: &[u8], n: usize) -> usize
-    requires { ⌜ n + 2 ≤ countOf kind (now file) ⌝ }
-    ensures { λ r. ⌜ r ≡ least (repeats kind (now (file .entry))) n ⌝ }
+// The first of n keys, one every `stride` bytes from `offset` on, that is the same as an earlier one; or n.
+pub fn first_repeat(s: &[u8], n: usize, stride: usize, offset: usize, size: usize) -> usize
+    requires { ⌜ ((i : ℕ) → i < n → i * stride + offset + size ≤ length (now s)) ⌝ }
+    ensures { λ r. ⌜ r ≡ least (repeatsIn stride offset size (now (s .entry))) n ⌝ }
 {
     let mut i = 0;
     'search: while i < n {
+        let at = i * stride + offset;
         let mut j = 0;
         while j < i {
-            if shares_key(kind, file, i, j) {
+            if shares(s, at, j * stride + offset, size) {
                 break 'search;
             }
             j += 1;
@@ -51,10 +46,17 @@ pub(crate) fn keys_tell(kind: Kind, file: &[u8]) -> Answer
     requires { ⌜ 2 ≤ countOf kind (now file) ⌝ }
     ensures { λ r. ⌜ r ≡ keysTell kind (now (file .entry)) ⌝ }
 {
+    let fixed = Fixed::of(kind);
     let n = records::count(kind, file) - 2;
-    let i = first_repeat(kind, file, n);
+    let i = first_repeat(
+        file,
+        n,
+        fixed.size,
+        fixed.size + fixed.key.start,
+        fixed.key.size,
+    );
     if i < n {
-        return Answer::refused_at(7, (i + 1) as u64, Fixed::of(kind).key.item, Answer::UNUSED);
+        return Answer::refused_at(7, (i + 1) as u64, fixed.key.item, Answer::UNUSED);
     }
     Answer::accepted()
 }

@@ -1,9 +1,16 @@
 -- By whether there is a repeated key.
+use Rattle.reader.proofs.Places.{record-inside, key-inside, first-place, key-fits}
 use Rattle.reader.specs.Keys.{repeatTold, keysTell}
+use Rattle.reader.specs.Records.{dataOf}
 use borrow.Author.Needs.{needs}
 use borrow.Author.Tests.{lt-ltb, le-ltb}
+use mathlib.Core.Path.{_∙_}
+use native.Mathlib.Omega.{arith}
 use Rattle.reader.proofs.keys.keys_tell.Statement.{statement}
 use Rattle.reader.proofs.keys.keys_tell.Tie as tie
+
+of-requires : tie.Need-of-requires
+of-requires c κs = search needs
 
 count-requires : tie.Need-count-requires
 count-requires c κs = search needs
@@ -11,14 +18,18 @@ count-requires c κs = search needs
 sub-n : tie.Need-sub-n
 sub-n c = search needs
 
+add-first-repeat : tie.Need-add-first-repeat
+add-first-repeat c =
+    let a = c .before .before .before .before .args in
+    rw (c .before .before .of .ensures) (omega (arith, record-inside (a .kind) (a .file .now) 1 (omega arith), key-inside (a .kind)))
+
 first-repeat-requires : tie.Need-first-repeat-requires
-first-repeat-requires c κs = search needs
+first-repeat-requires c κs =
+    let a = c .before .before .before .before .args in
+    rw (c .before .before .of .ensures, c .before .count .ensures) (key-fits (a .kind) (a .file .now) _ (omega arith))
 
 add-refused-at : tie.Need-add-refused-at
 add-refused-at c = search needs
-
-of-requires : tie.Need-of-requires
-of-requires c κs = search needs
 
 refused-at-requires : tie.Need-refused-at-requires
 refused-at-requires c κs = search needs
@@ -26,8 +37,11 @@ refused-at-requires c κs = search needs
 returns : tie.Need-returns
 unfolding keysTell repeatTold
 returns c =
-    let b = c .before .before .before in
-    rw (← b .before .count .ensures, ← b .first-repeat .ensures, lt-ltb _ _ (c .before .before .if1 .taken), ← c .before .of .ensures) (c .refused-at .ensures)
+    let b = c .before .before in
+    let n = b .before .before in
+    let a = n .before .before .before .args in
+    let first = (rw (n .before .of .ensures, n .count .ensures) at (b .first-repeat .ensures)) ∙ first-place (a .kind) (a .file .now) (dataOf (a .kind) (a .file .now)) (omega arith) in
+    rw (← first, ← n .count .ensures, lt-ltb _ _ (c .before .if1 .taken), ← n .before .of .ensures) (c .refused-at .ensures)
 
 accepted-requires : tie.Need-accepted-requires
 accepted-requires c κs = search needs
@@ -36,17 +50,21 @@ returns-2 : tie.Need-returns-2
 unfolding keysTell repeatTold
 returns-2 c =
     let b = c .before .before in
-    rw (← b .before .count .ensures, ← b .first-repeat .ensures, le-ltb _ _ (c .before .if1 .left)) (c .accepted .ensures)
+    let n = b .before .before in
+    let a = n .before .before .before .args in
+    let first = (rw (n .before .of .ensures, n .count .ensures) at (b .first-repeat .ensures)) ∙ first-place (a .kind) (a .file .now) (dataOf (a .kind) (a .file .now)) (omega arith) in
+    rw (← first, ← n .count .ensures, le-ltb _ _ (c .before .if1 .left)) (c .accepted .ensures)
 
 pub keys-tell-spec : {M : Type 1} → statement M
 keys-tell-spec =
     tie.close
     (tie.spec
+    of-requires
     count-requires
     sub-n
+    add-first-repeat
     first-repeat-requires
     add-refused-at
-    of-requires
     refused-at-requires
     returns
     accepted-requires

@@ -1,0 +1,19 @@
+-- The two parts, compared.
+use borrow.Author.Needs.{needs}
+use Rattle.reader.proofs.keys.shares.Statement.{statement}
+use Rattle.reader.proofs.keys.shares.Tie as tie
+
+part-requires : tie.Need-part-requires
+part-requires c κs = search needs
+
+part-requires-2 : tie.Need-part-requires-2
+part-requires-2 c κs = search needs
+
+same-requires : tie.Need-same-requires
+same-requires c κs = search needs
+
+returns : tie.Need-returns
+returns c = rw (← c .before .before .part .ensures .0, ← c .before .part2 .ensures .0) (c .same .ensures)
+
+pub shares-spec : {M : Type 1} → statement M
+shares-spec = tie.close (tie.spec part-requires part-requires-2 same-requires returns)
