@@ -2,4 +2,4 @@
 pub mod keys;
 pub mod reading;
 pub mod records;
-mod totals;
+pub mod totals;

@@ -57,7 +57,7 @@ fn worth_at(kind: Kind, file: &[u8], quantity: Quantity, i: usize) -> u64
 }
 
 // What all data records give: true sums, that fit since there are few records.
-fn quantity_of(kind: Kind, file: &[u8], quantity: Quantity) -> u64
+pub fn quantity_of(kind: Kind, file: &[u8], quantity: Quantity) -> u64
     requires { ⌜ 2 ≤ countOf kind (now file) ⌝ }
     requires { ⌜ countOf kind (now file) ≤ limit + 2 ⌝ }
     ensures { λ r. ⌜ r ≡ quantityOf kind (now (file .entry)) quantity ⌝ }
