@@ -1,0 +1,51 @@
+-- The cases of writing: what is answered, and what the room holds.
+-- Assumes nothing.
+use Prim.Native.Nat.{ℕ, _+_, _*_, _≤_, _<_}
+use mathlib.Core.Bool.{true, false}
+use mathlib.Core.List.{List, _++_}
+use mathlib.Core.Path.{_≡_, sym, _∙_, ap}
+use borrow.Author.Tests.{le-leb, lt-leb, eq-eqb, ne-eqb}
+use lib.ListN.{length, drop}
+use Rattle.tables.specs.declared.kinds.Kind.{Kind}
+use Rattle.tables.specs.Kinds.{fixedOf, limit}
+use Rattle.layout.specs.declared.answers.Answer.{Answer}
+use Rattle.layout.specs.Answers.{refused}
+use Rattle.reader.specs.Reading.{readAs}
+use Rattle.writer.specs.Records.{Head, bodyCount}
+use Rattle.writer.specs.Files.{fileOf, partsFit, size6, size7, writeAs, afterAs}
+use Rattle.writer.proofs.Built.{file-length}
+
+module _ (k : Kind) (h : Head) (bodies room : List ℕ) where
+  -- a refusal leaves the room as it was; what is accepted stands at its front
+  pub after-bad : (writeAs k h bodies (length room) .number ≡ 0 → ⊥) → afterAs k h bodies room ≡ room
+  unfolding afterAs
+  after-bad ne = rw (ne-eqb (writeAs k h bodies (length room) .number) 0 ne)
+
+  pub after-good :
+      writeAs k h bodies (length room) .number ≡ 0 → afterAs k h bodies room ≡ fileOf k h bodies ++ drop ((bodyCount k bodies + 2) * fixedOf k .size) room
+  unfolding afterAs
+  after-good e = rw (eq-eqb (writeAs k h bodies (length room) .number) 0 e, file-length k h bodies)
+
+  pub write-2 : partsFit h bodies (size6 k) (size7 k) (fixedOf k .body) ≡ false → writeAs k h bodies (length room) ≡ refused 2
+  unfolding writeAs
+  write-2 f = rw f
+
+  pub write-3 : partsFit h bodies (size6 k) (size7 k) (fixedOf k .body) ≡ true → limit < bodyCount k bodies → writeAs k h bodies (length room) ≡ refused 3
+  unfolding writeAs
+  write-3 t l = rw (t, lt-leb (bodyCount k bodies) limit l)
+
+  pub write-8 :
+      partsFit h bodies (size6 k) (size7 k) (fixedOf k .body) ≡ true → bodyCount k bodies ≤ limit →
+      length room < (bodyCount k bodies + 2) * fixedOf k .size → writeAs k h bodies (length room) ≡ refused 8
+  unfolding writeAs
+  write-8 t l r = rw (t, le-leb (bodyCount k bodies) limit l, lt-leb ((bodyCount k bodies + 2) * fixedOf k .size) (length room) r)
+
+  pub write-read :
+      partsFit h bodies (size6 k) (size7 k) (fixedOf k .body) ≡ true → bodyCount k bodies ≤ limit →
+      (bodyCount k bodies + 2) * fixedOf k .size ≤ length room → writeAs k h bodies (length room) ≡ readAs k (fileOf k h bodies)
+  unfolding writeAs
+  write-read t l r = rw (t, le-leb (bodyCount k bodies) limit l, le-leb ((bodyCount k bodies + 2) * fixedOf k .size) (length room) r)
+
+  -- the same with what the room holds
+  pub told-bad : (number : ℕ) (a : Answer) → (number ≡ 0 → ⊥) → a ≡ refused number → writeAs k h bodies (length room) ≡ refused number → (a ≡ writeAs k h bodies (length room)) × (room ≡ afterAs k h bodies room)
+  told-bad number a ne e w = (e ∙ sym w, sym (after-bad (λ z. ne (ap (λ (x : Answer). x .number) (sym w) ∙ z))))

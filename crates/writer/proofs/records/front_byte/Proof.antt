@@ -1,0 +1,39 @@
+-- The row over the place says what stands there.
+use Rattle.writer.specs.Records.{frontFill}
+use borrow.Author.Needs.{needs}
+use native.Mathlib.Omega.{arith}
+use Rattle.writer.proofs.records.front_byte.Statement.{statement}
+use Rattle.writer.proofs.records.front_byte.Tie as tie
+
+row-over-requires : tie.Need-row-over-requires
+row-over-requires c κs = search needs
+
+past-requires : tie.Need-past-requires
+past-requires c κs = search needs
+
+digit-at-requires : tie.Need-digit-at-requires
+digit-at-requires c κs = omega (arith, c .before .row-over .ensures .1)
+
+byte-requires : tie.Need-byte-requires
+byte-requires c κs = search needs
+
+fill-requires : tie.Need-fill-requires
+fill-requires c κs = search needs
+
+returns : tie.Need-returns
+unfolding frontFill
+returns c =
+    let r = c .before .before .before .before in
+    rw (← r .row-over .ensures .0, ← c .before .before .before .past .ensures, ← c .before .before .digit-at .ensures, ← c .before .byte .ensures .0)
+    (c .fill .ensures)
+
+pub front-byte-spec : {M : Type 1} → statement M
+front-byte-spec =
+    tie.close
+    (tie.spec
+    row-over-requires
+    past-requires
+    digit-at-requires
+    byte-requires
+    fill-requires
+    returns)

@@ -1,0 +1,101 @@
+-- Refusals first, then the answer of reading; only what is accepted is stored.
+use Rattle.layout.specs.declared.answers.Answer.{Answer}
+use Rattle.tables.specs.declared.kinds.Kind.the-variants.{EB21}
+use Rattle.writer.proofs.Written.{write-2, write-3, write-8, write-read, after-bad, after-good, told-bad}
+use Rattle.writer.specs.Records.{headOf, bodyCount}
+use borrow.Author.Needs.{needs}
+use mathlib.Core.Path.{refl, sym, _∙_, ap}
+use native.Mathlib.Omega.{arith}
+use Rattle.writer.proofs.writing.write_150.Statement.{statement}
+use Rattle.writer.proofs.writing.write_150.Tie as tie
+
+parts-fit-requires : tie.Need-parts-fit-requires
+parts-fit-requires c κs = search needs
+
+refused-requires : tie.Need-refused-requires
+refused-requires c κs = search needs
+
+returns : tie.Need-returns
+unfolding bodyCount
+returns c =
+    let a = c .before .before .before .before .before .before .before .before .before .before .args in
+    let h = headOf (a .date .now) (a .code .now) (a .item6 .now) (a .item7 .now) in
+    told-bad EB21 h (a .bodies .now) (a .room .now) 3 _ (λ z. omega arith) (c .refused .ensures)
+    (write-3 EB21 h (a .bodies .now) (a .room .now) (sym (c .before .before .before .parts-fit .ensures) ∙ c .before .before .if1 .taken) (c .before .if2 .taken))
+
+add-if3 : tie.Need-add-if3
+add-if3 c = search needs
+
+mul-if3 : tie.Need-mul-if3
+mul-if3 c = search needs
+
+refused-requires-2 : tie.Need-refused-requires-2
+refused-requires-2 c κs = search needs
+
+returns-2 : tie.Need-returns-2
+unfolding bodyCount
+returns-2 c =
+    let a = c .before .before .before .before .before .before .before .before .before .before .before .args in
+    let h = headOf (a .date .now) (a .code .now) (a .item6 .now) (a .item7 .now) in
+    told-bad EB21 h (a .bodies .now) (a .room .now) 8 _ (λ z. omega arith) (c .refused2 .ensures)
+    (write-8 EB21 h (a .bodies .now) (a .room .now) (sym (c .before .before .before .before .parts-fit .ensures) ∙ c .before .before .before .if1 .taken) (c .before .before .if2 .left) (c .before .if3 .taken))
+
+judge-150-requires : tie.Need-judge-150-requires
+unfolding bodyCount
+judge-150-requires c κs = (refl, c .before .if2 .left)
+
+put-150-requires : tie.Need-put-150-requires
+unfolding bodyCount
+put-150-requires c κs = (refl, (c .before .before .before .before .before .if2 .left, c .before .before .before .before .if3 .left))
+
+same-length : tie.Need-same-length
+same-length c = search needs
+
+returns-3 : tie.Need-returns-3
+unfolding bodyCount
+returns-3 c =
+    let a = c .before .before .before .before .before .before .before .before .before .before .before .before .before .before .before .before .before .args in
+    let h = headOf (a .date .now) (a .code .now) (a .item6 .now) (a .item7 .now) in
+    let j = c .before .before .before .before .before .before .judge-150 in
+    let e = write-read EB21 h (a .bodies .now) (a .room .now) (sym (c .before .before .before .before .before .before .before .before .before .before .parts-fit .ensures) ∙ c .before .before .before .before .before .before .before .before .before .if1 .taken) (c .before .before .before .before .before .before .before .before .if2 .left) (c .before .before .before .before .before .before .before .if3 .left) in (
+      j .ensures ∙ sym e,
+      c .before .before .put-150 .ensures ∙ sym (after-good EB21 h (a .bodies .now) (a .room .now) (ap (λ (x : Answer). x .number) (e ∙ sym (j .ensures)) ∙ c .before .before .before .before .if4 .taken)),
+    )
+
+returns-4 : tie.Need-returns-4
+unfolding bodyCount
+returns-4 c =
+    let a = c .before .before .before .before .before .before .before .before .before .before .before .before .before .args in
+    let h = headOf (a .date .now) (a .code .now) (a .item6 .now) (a .item7 .now) in
+    let j = c .before .before .judge-150 in
+    let e = write-read EB21 h (a .bodies .now) (a .room .now) (sym (c .before .before .before .before .before .before .parts-fit .ensures) ∙ c .before .before .before .before .before .if1 .taken) (c .before .before .before .before .if2 .left) (c .before .before .before .if3 .left) in
+    (j .ensures ∙ sym e, sym (after-bad EB21 h (a .bodies .now) (a .room .now) (λ z. c .if4 .left (ap (λ (x : Answer). x .number) (j .ensures ∙ sym e) ∙ z))))
+
+refused-requires-3 : tie.Need-refused-requires-3
+refused-requires-3 c κs = search needs
+
+returns-5 : tie.Need-returns-5
+returns-5 c =
+    let a = c .before .before .before .before .before .before .before .before .before .args in
+    let h = headOf (a .date .now) (a .code .now) (a .item6 .now) (a .item7 .now) in
+    told-bad EB21 h (a .bodies .now) (a .room .now) 2 _ (λ z. omega arith) (c .refused3 .ensures)
+    (write-2 EB21 h (a .bodies .now) (a .room .now) (sym (c .before .before .parts-fit .ensures) ∙ c .before .if1 .left))
+
+pub write-150-spec : {M : Type 1} → statement M
+write-150-spec =
+    tie.close
+    (tie.spec
+    parts-fit-requires
+    refused-requires
+    returns
+    add-if3
+    mul-if3
+    refused-requires-2
+    returns-2
+    judge-150-requires
+    put-150-requires
+    same-length
+    returns-3
+    returns-4
+    refused-requires-3
+    returns-5)

@@ -1,0 +1,49 @@
+-- What stands at a place of a record to be written, by the row over it.
+use Prim.Native.Nat.{ℕ, zero, suc, _+_, _/_, _%_}
+use mathlib.Core.Bool.{Bool, cond, _&&_}
+use mathlib.Core.List.{List, [], _∷_, _++_}
+use lib.Dec.{leb, ltb, eqb}
+use lib.ListN.{length, getD}
+use Rattle.laws.specs.Least.{least}
+use Rattle.tables.specs.declared.rows.Row.{Row}
+use Rattle.tables.specs.declared.rows.Class.{Class}
+use Rattle.tables.specs.declared.rows.Class.the-variants.{Each, CodeText, Filled, Owner, Institution, KindName, Date, NameDate, Serial, AsHeader, NotLater, Application, NotZero, Failed, FailedOrPart, Least}
+use Rattle.tables.specs.Rows.{blank}
+
+-- f 0, f 1, .. , f (n - 1)
+unfoldable pub tabulate : (ℕ → ℕ) → ℕ → List ℕ
+tabulate f zero = []
+tabulate f (suc n) = tabulate f n ++ (f n ∷ [])
+
+-- a row is over place j, row i is, the first row that is
+unfoldable pub overRow : Row → ℕ → Bool
+overRow r j = leb (r .1) j && ltb j (r .1 + r .2)
+
+unfoldable pub over : List Row → ℕ → ℕ → Bool
+over rows j i = overRow (getD rows i blank) j
+
+unfoldable pub rowOver : List Row → ℕ → Row
+rowOver rows j = getD rows (least (over rows j) (length rows)) blank
+
+-- letter d of a name of four letters
+unfoldable pub letterOf : ℕ → ℕ → ℕ
+letterOf name d = cond (eqb d 0) (name / 0x1000000 % 256) (cond (eqb d 1) (name / 0x10000 % 256) (cond (eqb d 2) (name / 0x100 % 256) (name % 256)))
+
+-- what a class writes: its one byte, the kind's letter, the serial's digit, the header's byte; else what is given
+abbrev pub fillBy : Class → ℕ → ℕ → ℕ → ℕ → ℕ
+fillBy (Each low high) given letter digit theirs = cond (eqb low high) low given
+fillBy CodeText given letter digit theirs = given
+fillBy Filled given letter digit theirs = given
+fillBy Owner given letter digit theirs = given
+fillBy Institution given letter digit theirs = given
+fillBy KindName given letter digit theirs = letter
+fillBy Date given letter digit theirs = given
+fillBy NameDate given letter digit theirs = given
+fillBy Serial given letter digit theirs = digit
+fillBy AsHeader given letter digit theirs = theirs
+fillBy NotLater given letter digit theirs = given
+fillBy Application given letter digit theirs = given
+fillBy NotZero given letter digit theirs = given
+fillBy Failed given letter digit theirs = given
+fillBy FailedOrPart given letter digit theirs = given
+fillBy Least given letter digit theirs = given

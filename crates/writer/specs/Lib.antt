@@ -1,0 +1,4 @@
+-- A request file made.
+pub mod Bytes
+pub mod Records
+pub mod Files
