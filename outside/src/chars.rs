@@ -1,0 +1,69 @@
+//! Characters and dates.
+
+/// Digits: every byte "0" to "9".
+pub fn digits(text: &[u8]) -> bool {
+    text.iter().all(u8::is_ascii_digit)
+}
+
+/// A number, read in base ten; none when the text isn't digits.
+/// (No item has more than 13 of them.)
+pub fn number(text: &[u8]) -> Option<u64> {
+    if !digits(text) {
+        return None;
+    }
+    text.iter().try_fold(0u64, |n, d| n.checked_mul(10)?.checked_add(u64::from(d - b'0')))
+}
+
+/// All spaces.
+pub fn spaces(text: &[u8]) -> bool {
+    text.iter().all(|&b| b == b' ')
+}
+
+/// All "0".
+pub fn zeros(text: &[u8]) -> bool {
+    text.iter().all(|&b| b == b'0')
+}
+
+/// Code text: digits and capitals, then only spaces.
+pub fn code_text(text: &[u8]) -> bool {
+    let written = text.iter().take_while(|b| b.is_ascii_digit() || b.is_ascii_uppercase()).count();
+    spaces(&text[written..])
+}
+
+/// Filled code text has at least one character before the spaces.
+pub fn filled_code_text(text: &[u8]) -> bool {
+    code_text(text) && !spaces(text)
+}
+
+/// Free text: bytes hex 20 to 7E.
+pub fn free_text(text: &[u8]) -> bool {
+    text.iter().all(|b| (0x20..=0x7e).contains(b))
+}
+
+/// Passbook text: bytes hex 20 or above.
+pub fn passbook_text(text: &[u8]) -> bool {
+    text.iter().all(|&b| b >= 0x20)
+}
+
+/// A real date YYMMDD: 20YY, month 01 to 12, a day that this month has.
+pub fn real_date(text: &[u8]) -> bool {
+    let Some(date) = number(text) else {
+        return false;
+    };
+    if text.len() != 6 {
+        return false;
+    }
+    let (year, month, day) = (date / 10_000, date / 100 % 100, date % 100);
+    day >= 1 && day <= days(year, month)
+}
+
+/// How many days a month has; none in a month that isn't one.
+fn days(year: u64, month: u64) -> u64 {
+    match month {
+        2 if year.is_multiple_of(4) => 29,
+        2 => 28,
+        4 | 6 | 9 | 11 => 30,
+        1..=12 => 31,
+        _ => 0,
+    }
+}

@@ -1,0 +1,485 @@
+//! Every (operation, side, number, part of file, item, code) that the rules
+//! can give, written out from them, and a counter of what was reached.
+//!
+//! The lists below do not use the reader: they are a second writing of the
+//! rules, so an answer that stands in no list is a finding, too.
+
+use crate::layout::{Kind, PairKind};
+use crate::model::{Answer, NO_CODE};
+use std::collections::BTreeMap;
+use std::fmt;
+
+/// What was called, and for which kind; `None` is a number that names no kind.
+#[derive(Clone, Copy, Debug, PartialEq, Eq, PartialOrd, Ord)]
+pub enum Operation {
+    Read(Option<Kind>),
+    Walk(Option<Kind>),
+    Write(Option<Kind>),
+    Pair(Option<PairKind>),
+    Outcome(Option<PairKind>),
+    Post,
+}
+
+/// The part of the file that an answer points into.
+#[derive(Clone, Copy, Debug, PartialEq, Eq, PartialOrd, Ord)]
+pub enum Part {
+    /// The answer has no place.
+    None,
+    Header,
+    Data,
+    Trailer,
+    /// A record number past the trailer: no answer may have it.
+    Outside,
+}
+
+#[derive(Clone, Copy, Debug, PartialEq, Eq, PartialOrd, Ord)]
+pub struct Entry {
+    pub operation: Operation,
+    pub side: u64,
+    pub number: u64,
+    pub part: Part,
+    pub item: u64,
+    pub code: [u8; 4],
+}
+
+impl fmt::Display for Entry {
+    fn fmt(&self, f: &mut fmt::Formatter<'_>) -> fmt::Result {
+        let Entry { operation, side, number, part, item, code } = self;
+        let code = code.escape_ascii();
+        write!(f, "{operation:?}: side {side}, number {number}, {part:?} item {item}, code {code}")
+    }
+}
+
+/// One row of a list: number, item, code.
+type Row = (u64, u64, &'static str);
+
+const NONE: &str = "0000";
+
+// Headers.
+
+const ENROLMENT_HEADER: &[Row] = &[
+    (4, 1, "0081"),
+    (4, 2, "0081"),
+    (4, 3, "0088"),
+    (5, 4, NONE),
+    (4, 4, "0088"),
+    (4, 5, "0088"),
+    (4, 5, "9998"),
+    (5, 5, NONE),
+    (4, 6, "0089"),
+];
+
+const DEBIT_HEADER: &[Row] = &[
+    (4, 1, "0081"),
+    (4, 2, "0081"),
+    (4, 3, "0088"),
+    (5, 4, NONE),
+    (4, 4, "0088"),
+    (4, 5, "0088"),
+    (4, 5, "9998"),
+    (5, 5, NONE),
+    (4, 6, "0011"),
+    (4, 7, "0098"),
+    (4, 8, "0089"),
+];
+
+// Data records.
+
+const EB13_DATA: &[Row] = &[
+    (4, 1, "0081"),
+    (4, 2, "0081"),
+    (5, 3, NONE),
+    (4, 4, "A011"),
+    (4, 5, "A012"),
+    (4, 6, "0098"),
+    (4, 7, "0011"),
+    (4, 8, "0098"),
+    (4, 9, "0098"),
+    (4, 10, "0089"),
+    (4, 11, "0098"),
+    (4, 12, "0089"),
+    (4, 13, "0089"),
+    (4, 14, "0088"),
+    (4, 15, "0089"),
+    (4, 16, "0089"),
+    (7, 6, NONE),
+];
+
+const EB14_DATA: &[Row] = &[
+    (4, 1, "0081"),
+    (4, 2, "0081"),
+    (5, 3, NONE),
+    (4, 4, "A011"),
+    (4, 5, "A012"),
+    (4, 6, "0098"),
+    (4, 7, "0011"),
+    (4, 8, "0098"),
+    (4, 9, "0098"),
+    (4, 10, "0089"),
+    (4, 11, "0098"),
+    (4, 12, "0088"),
+    (4, 13, "0089"),
+    (4, 14, "0088"),
+    (4, 15, "0089"),
+    (4, 16, "0089"),
+    (7, 6, NONE),
+];
+
+const EB21_DATA: &[Row] = &[
+    (4, 1, "0081"),
+    (4, 2, "0081"),
+    (5, 3, NONE),
+    (4, 4, "0011"),
+    (4, 5, "0098"),
+    (4, 6, "0088"),
+    (4, 6, "0061"),
+    (4, 7, "0098"),
+    (4, 8, "0089"),
+    (4, 9, "0068"),
+    (4, 10, "0098"),
+    (4, 11, "0098"),
+    (4, 12, "0088"),
+    (4, 13, "0075"),
+    (4, 14, "0088"),
+    (4, 15, "0089"),
+    (7, 11, NONE),
+];
+
+const EB22_DATA: &[Row] = &[
+    (4, 1, "0081"),
+    (4, 2, "0081"),
+    (5, 3, NONE),
+    (4, 4, "0011"),
+    (4, 5, "0098"),
+    (4, 6, "0088"),
+    (4, 6, "0061"),
+    (4, 7, "0098"),
+    (4, 8, "0088"),
+    (4, 9, "0068"),
+    (4, 10, "0098"),
+    (4, 11, "0098"),
+    (4, 12, "0088"),
+    (4, 13, "0075"),
+    (4, 14, "0088"),
+    (4, 15, "0089"),
+    (7, 11, NONE),
+];
+
+// Trailers.
+
+const EB13_TRAILER: &[Row] = &[
+    (4, 1, "0081"),
+    (4, 2, "0081"),
+    (5, 3, NONE),
+    (5, 4, NONE),
+    (4, 5, "0088"),
+    (4, 6, "0088"),
+    (4, 7, "0090"),
+    (4, 8, "0088"),
+    (4, 9, "0088"),
+    (4, 10, "0089"),
+    (4, 11, "0089"),
+    (6, 5, NONE),
+    (6, 6, NONE),
+    (6, 8, NONE),
+    (6, 9, NONE),
+];
+
+const EB14_TRAILER: &[Row] = &[
+    (4, 1, "0081"),
+    (4, 2, "0081"),
+    (5, 3, NONE),
+    (5, 4, NONE),
+    (4, 5, "0088"),
+    (4, 6, "0088"),
+    (4, 7, "0090"),
+    (4, 8, "0088"),
+    (4, 9, "0088"),
+    (4, 10, "0089"),
+    (4, 11, "0088"),
+    (6, 5, NONE),
+    (6, 6, NONE),
+    (6, 8, NONE),
+    (6, 9, NONE),
+];
+
+const EB21_TRAILER: &[Row] = &[
+    (4, 1, "0081"),
+    (4, 2, "0081"),
+    (5, 3, NONE),
+    (5, 4, NONE),
+    (4, 5, "0088"),
+    (4, 6, "0088"),
+    (4, 7, "0088"),
+    (4, 8, "0090"),
+    (4, 9, "0090"),
+    (4, 10, "0089"),
+    (4, 11, "0089"),
+    (6, 5, NONE),
+    (6, 6, NONE),
+    (6, 7, NONE),
+];
+
+const EB22_TRAILER: &[Row] = &[
+    (4, 1, "0081"),
+    (4, 2, "0081"),
+    (5, 3, NONE),
+    (5, 4, NONE),
+    (4, 5, "0088"),
+    (4, 6, "0088"),
+    (4, 7, "0088"),
+    (4, 8, "0088"),
+    (4, 9, "0088"),
+    (4, 10, "0088"),
+    (4, 11, "0090"),
+    (4, 12, "0088"),
+    (4, 13, "0090"),
+    (4, 14, "0089"),
+    (4, 15, "0088"),
+    (6, 5, NONE),
+    (6, 6, NONE),
+    (6, 7, NONE),
+    (6, 8, NONE),
+    (6, 9, NONE),
+];
+
+// Writing: items 1 to 3 of data records and the trailer are the writer's own,
+// so 5 can't occur there, and 6 only for the sum over 13 digits.
+
+const EB13_WRITTEN_HEADER: &[Row] = &[(4, 3, "0088"), (4, 4, "0088"), (4, 5, "0088"), (4, 5, "9998")];
+
+const EB21_WRITTEN_HEADER: &[Row] =
+    &[(4, 3, "0088"), (4, 4, "0088"), (4, 5, "0088"), (4, 5, "9998"), (4, 6, "0011"), (4, 7, "0098")];
+
+const EB13_WRITTEN_DATA: &[Row] = &[
+    (4, 4, "A011"),
+    (4, 5, "A012"),
+    (4, 6, "0098"),
+    (4, 7, "0011"),
+    (4, 8, "0098"),
+    (4, 9, "0098"),
+    (4, 10, "0089"),
+    (4, 11, "0098"),
+    (4, 12, "0089"),
+    (4, 13, "0089"),
+    (4, 14, "0088"),
+    (4, 15, "0089"),
+    (4, 16, "0089"),
+    (7, 6, NONE),
+];
+
+const EB21_WRITTEN_DATA: &[Row] = &[
+    (4, 4, "0011"),
+    (4, 5, "0098"),
+    (4, 6, "0088"),
+    (4, 6, "0061"),
+    (4, 7, "0098"),
+    (4, 8, "0089"),
+    (4, 9, "0068"),
+    (4, 10, "0098"),
+    (4, 11, "0098"),
+    (4, 12, "0088"),
+    (4, 13, "0075"),
+    (4, 14, "0088"),
+    (4, 15, "0089"),
+    (7, 11, NONE),
+];
+
+const EB21_WRITTEN_TRAILER: &[Row] = &[(6, 7, NONE)];
+
+// The pair itself.  Items 3, the key's and the blank ones can't differ when
+// they are compared: 12 and the reading of both files have met them before.
+
+const ENROLMENT_HEADERS: &[Row] = &[(12, 3, NONE), (12, 5, NONE)];
+
+const DEBIT_HEADERS: &[Row] = &[(12, 3, NONE), (12, 5, NONE), (12, 6, NONE), (12, 7, NONE)];
+
+const ENROLMENT_RESULTS: &[Row] = &[
+    (13, 6, NONE), // no request has the key
+    (13, 4, NONE),
+    (13, 7, NONE),
+    (13, 8, NONE),
+    (13, 9, NONE),
+    (13, 11, NONE),
+    (13, 14, NONE),
+];
+
+const DEBIT_RESULTS: &[Row] = &[
+    (13, 11, NONE), // no request has the key
+    (13, 4, NONE),
+    (13, 5, NONE),
+    (13, 7, NONE),
+    (13, 9, NONE),
+    (13, 10, NONE),
+    (13, 13, NONE),
+    (13, 14, NONE),
+    (14, 6, NONE),
+    (14, 13, NONE),
+];
+
+/// Every answer that the rules can give.
+pub fn all() -> Vec<Entry> {
+    let mut list = List::default();
+    for kind in Kind::ALL {
+        list.placeless(Operation::Read(Some(kind)), 0, &[0, 2, 3]);
+        list.reading(Operation::Read(Some(kind)), 0, kind);
+        list.placeless(Operation::Walk(Some(kind)), 0, &[0, 2, 3]);
+        list.reading(Operation::Walk(Some(kind)), 0, kind);
+    }
+    list.placeless(Operation::Read(None), 0, &[1]);
+    list.placeless(Operation::Walk(None), 0, &[1]);
+    list.writing();
+    for pair in PairKind::ALL {
+        let lent = Operation::Pair(Some(pair));
+        list.placeless(lent, 0, &[0, 8]);
+        list.pairing(lent, pair);
+        let single = Operation::Outcome(Some(pair));
+        list.placeless(single, 0, &[0, 15]);
+        list.pairing(single, pair);
+    }
+    list.placeless(Operation::Pair(None), 0, &[1]);
+    list.placeless(Operation::Outcome(None), 0, &[1]);
+    list.placeless(Operation::Post, 0, &[0]);
+    list.pairing(Operation::Post, PairKind::Debit);
+    list.0
+}
+
+/// Every answer that reading can give, for each kind and an unknown one.
+pub fn reading() -> Vec<Entry> {
+    all().into_iter().filter(|entry| matches!(entry.operation, Operation::Read(_))).collect()
+}
+
+#[derive(Default)]
+struct List(Vec<Entry>);
+
+impl List {
+    fn rows(&mut self, operation: Operation, side: u64, part: Part, rows: &[Row]) {
+        for &(number, item, code) in rows {
+            let mut four = NO_CODE;
+            four.copy_from_slice(code.as_bytes());
+            self.0.push(Entry { operation, side, number, part, item, code: four });
+        }
+    }
+
+    fn placeless(&mut self, operation: Operation, side: u64, numbers: &[u64]) {
+        for &number in numbers {
+            self.rows(operation, side, Part::None, &[(number, 0, NONE)]);
+        }
+    }
+
+    fn reading(&mut self, operation: Operation, side: u64, kind: Kind) {
+        let (header, data, trailer) = match kind {
+            Kind::EB13 => (ENROLMENT_HEADER, EB13_DATA, EB13_TRAILER),
+            Kind::EB14 => (ENROLMENT_HEADER, EB14_DATA, EB14_TRAILER),
+            Kind::EB21 => (DEBIT_HEADER, EB21_DATA, EB21_TRAILER),
+            Kind::EB22 => (DEBIT_HEADER, EB22_DATA, EB22_TRAILER),
+        };
+        self.rows(operation, side, Part::Header, header);
+        self.rows(operation, side, Part::Data, data);
+        self.rows(operation, side, Part::Trailer, trailer);
+    }
+
+    fn writing(&mut self) {
+        let enrolment = Operation::Write(Some(Kind::EB13));
+        self.placeless(enrolment, 0, &[0, 2, 3, 8]);
+        self.rows(enrolment, 0, Part::Header, EB13_WRITTEN_HEADER);
+        self.rows(enrolment, 0, Part::Data, EB13_WRITTEN_DATA);
+        let debit = Operation::Write(Some(Kind::EB21));
+        self.placeless(debit, 0, &[0, 2, 3, 8]);
+        self.rows(debit, 0, Part::Header, EB21_WRITTEN_HEADER);
+        self.rows(debit, 0, Part::Data, EB21_WRITTEN_DATA);
+        self.rows(debit, 0, Part::Trailer, EB21_WRITTEN_TRAILER);
+        self.placeless(Operation::Write(Some(Kind::EB14)), 0, &[1]);
+        self.placeless(Operation::Write(Some(Kind::EB22)), 0, &[1]);
+        self.placeless(Operation::Write(None), 0, &[1]);
+    }
+
+    /// What the two files and their meeting give, whoever asks.
+    fn pairing(&mut self, operation: Operation, pair: PairKind) {
+        for (side, kind) in [(1, pair.request()), (2, pair.result())] {
+            self.placeless(operation, side, &[2, 3]);
+            self.reading(operation, side, kind);
+        }
+        let (headers, results) = match pair {
+            PairKind::Enrolment => (ENROLMENT_HEADERS, ENROLMENT_RESULTS),
+            PairKind::Debit => (DEBIT_HEADERS, DEBIT_RESULTS),
+        };
+        self.rows(operation, 0, Part::Header, headers);
+        self.rows(operation, 0, Part::Data, results);
+    }
+}
+
+/// The entry of an answer; `n` is how many data records the file has that the
+/// answer points into.
+pub fn entry(operation: Operation, answer: &Answer, n: u64) -> Entry {
+    let part = match (answer.number, answer.record) {
+        (0..=3 | 8 | 15, 0) => Part::None,
+        (4..=7 | 12..=14, 0) => Part::Header,
+        (_, record) if record <= n => Part::Data,
+        (_, record) if record == n + 1 => Part::Trailer,
+        _ => Part::Outside,
+    };
+    Entry {
+        operation,
+        side: answer.side,
+        number: answer.number,
+        part,
+        item: answer.item,
+        code: answer.code,
+    }
+}
+
+/// How often each entry was reached.
+pub struct Counter {
+    listed: BTreeMap<Entry, u64>,
+    unlisted: BTreeMap<Entry, u64>,
+}
+
+impl Default for Counter {
+    fn default() -> Counter {
+        Counter::new()
+    }
+}
+
+impl Counter {
+    /// A counter of all operations.
+    pub fn new() -> Counter {
+        Counter::of(all())
+    }
+
+    /// A counter of the entries of a list.
+    pub fn of(list: Vec<Entry>) -> Counter {
+        Counter { listed: list.into_iter().map(|entry| (entry, 0)).collect(), unlisted: BTreeMap::new() }
+    }
+
+    /// Counts one answer.
+    pub fn note(&mut self, operation: Operation, answer: &Answer, n: u64) {
+        let entry = entry(operation, answer, n);
+        match self.listed.get_mut(&entry) {
+            Some(times) => *times += 1,
+            None => *self.unlisted.entry(entry).or_insert(0) += 1,
+        }
+    }
+
+    /// The entries of the list that were never reached.
+    pub fn never(&self) -> Vec<Entry> {
+        self.listed.iter().filter(|(_, times)| **times == 0).map(|(entry, _)| *entry).collect()
+    }
+
+    /// Answers that stand in no list: the rules can't give them.
+    pub fn unlisted(&self) -> Vec<Entry> {
+        self.unlisted.keys().copied().collect()
+    }
+
+    /// How many entries the list has.
+    pub fn size(&self) -> usize {
+        self.listed.len()
+    }
+
+    /// Every entry of the list with its count, the rarest first.
+    pub fn rarest(&self) -> Vec<(Entry, u64)> {
+        let mut entries: Vec<_> = self.listed.iter().map(|(e, t)| (*e, *t)).collect();
+        entries.sort_by_key(|(_, times)| *times);
+        entries
+    }
+}

@@ -1,0 +1,46 @@
+//! `outside`: an independent reference for the rules, in ordinary Rust.
+//!
+//! Written from the rules, the layout papers and the C face alone, so that it
+//! can be compared with the proved library.  It shares no table and no helper
+//! with that library.
+//!
+//! The reference, of which every function takes any bytes and any numbers, and
+//! none panics:
+//!
+//! * [`model`]: what the treasurer is told: [`Answer`], [`Outcome`], [`Step`];
+//! * [`chars`]: characters, numbers and dates;
+//! * [`layout`]: file kinds, pair kinds, item lengths, table codes;
+//! * [`read`](mod@read): one file is read;
+//! * [`write`](mod@write): one request file is written;
+//! * [`pair`](mod@pair): a request meets its result, and one request's outcome;
+//! * [`walk`](mod@walk): record k + 1 of a file, or the end;
+//! * [`post`](mod@post): the posting program's output.
+//!
+//! For the comparison:
+//!
+//! * [`gen`]: a deterministic generator of inputs, good and bad;
+//! * [`proved`]: the proved library, called through its C face;
+//! * [`coverage`]: every place and code that the rules can give, counted;
+//! * [`shrink`](mod@shrink): a smaller file that shows the same difference;
+//! * [`settings`]: seed and count, from the environment.
+
+pub mod chars;
+pub mod coverage;
+pub mod gen;
+pub mod layout;
+pub mod model;
+pub mod pair;
+pub mod post;
+pub mod proved;
+pub mod read;
+pub mod settings;
+pub mod shrink;
+pub mod walk;
+pub mod write;
+
+pub use model::{eight, nine, Answer, Outcome, Step};
+pub use pair::{outcome, pair};
+pub use post::{post, post_into};
+pub use read::read;
+pub use walk::walk;
+pub use write::write;

@@ -1,0 +1,149 @@
+//! What the treasurer is told.
+
+/// The code of every answer that has none to give.
+pub const NO_CODE: [u8; 4] = *b"0000";
+
+/// The code of an outcome without one: four spaces, printed `----`.
+pub const BLANK_CODE: [u8; 4] = *b"    ";
+
+/// Side, number, record, item, code.
+#[derive(Clone, Copy, Debug, PartialEq, Eq, Hash, PartialOrd, Ord)]
+pub struct Answer {
+    /// 0 single file or the pair itself; 1, 2 when the pair's request or
+    /// result is refused by reading.
+    pub side: u64,
+    /// The number of the refusal, 0 when accepted.
+    pub number: u64,
+    /// Header 0, data records 1 to n, trailer n + 1.
+    pub record: u64,
+    pub item: u64,
+    pub code: [u8; 4],
+}
+
+impl Answer {
+    /// Number 0.
+    pub fn accepted() -> Answer {
+        Answer::without_place(0)
+    }
+
+    /// A number that has no place: 1, 2, 3, 8, 15.
+    pub fn without_place(number: u64) -> Answer {
+        Answer::placed(number, 0, 0)
+    }
+
+    /// A number with record and item, and no code: 5, 6, 7, 12, 13, 14.
+    pub fn placed(number: u64, record: usize, item: usize) -> Answer {
+        Answer { side: 0, number, record: record as u64, item: item as u64, code: NO_CODE }
+    }
+
+    /// Number 4: an item breaks its rule.
+    pub fn broken(record: usize, item: usize, code: &[u8; 4]) -> Answer {
+        Answer { code: *code, ..Answer::placed(4, record, item) }
+    }
+
+    /// The same answer, told about a file of a pair.
+    pub fn on_side(self, side: u64) -> Answer {
+        Answer { side, ..self }
+    }
+
+    pub fn is_accepted(&self) -> bool {
+        self.number == 0
+    }
+
+    /// The five numbers of the C face.
+    pub fn five(&self) -> [u64; 5] {
+        [self.side, self.number, self.record, self.item, code_number(&self.code)]
+    }
+}
+
+/// A code as a number: its four bytes, big-endian.
+pub fn code_number(code: &[u8; 4]) -> u64 {
+    u64::from(u32::from_be_bytes(*code))
+}
+
+/// What became of one request.
+#[derive(Clone, Copy, Debug, PartialEq, Eq, Hash)]
+pub enum Outcome {
+    /// There is none, because the pair or the record number was refused.
+    None,
+    /// All was taken.
+    Whole { won: u64 },
+    /// Some was taken; the code may be blank.
+    Part { taken: u64, not_taken: u64, code: [u8; 4] },
+    /// Nothing was taken; `won` is what was asked.
+    Refused { won: u64, code: [u8; 4] },
+}
+
+impl Outcome {
+    /// The case's number in the C face.
+    pub fn case(&self) -> u64 {
+        match self {
+            Outcome::None => 0,
+            Outcome::Whole { .. } => 1,
+            Outcome::Part { .. } => 2,
+            Outcome::Refused { .. } => 3,
+        }
+    }
+
+    pub fn taken(&self) -> u64 {
+        match *self {
+            Outcome::None | Outcome::Refused { .. } => 0,
+            Outcome::Whole { won } => won,
+            Outcome::Part { taken, .. } => taken,
+        }
+    }
+
+    pub fn not_taken(&self) -> u64 {
+        match *self {
+            Outcome::None | Outcome::Whole { .. } => 0,
+            Outcome::Part { not_taken, .. } => not_taken,
+            Outcome::Refused { won, .. } => won,
+        }
+    }
+
+    /// The result's code, blank where there is none.
+    pub fn code(&self) -> [u8; 4] {
+        match *self {
+            Outcome::None | Outcome::Whole { .. } => BLANK_CODE,
+            Outcome::Part { code, .. } | Outcome::Refused { code, .. } => code,
+        }
+    }
+}
+
+/// What the walk hands out.
+#[derive(Clone, Copy, Debug, PartialEq, Eq, Hash)]
+pub enum Step {
+    /// Nothing, because the file was refused.
+    None,
+    /// A data record: its first byte in the file, and its length.
+    Record { start: u64, length: u64 },
+    /// The end.
+    End,
+}
+
+/// The nine numbers of `cms_outcome`.
+pub fn nine(answer: &Answer, outcome: &Outcome) -> [u64; 9] {
+    let [side, number, record, item, code] = answer.five();
+    [
+        side,
+        number,
+        record,
+        item,
+        code,
+        outcome.case(),
+        outcome.taken(),
+        outcome.not_taken(),
+        code_number(&outcome.code()),
+    ]
+}
+
+/// The eight numbers of `cms_walk`.
+pub fn eight(answer: &Answer, step: &Step) -> [u64; 8] {
+    let [side, number, record, item, code] = answer.five();
+    let [case, start, length] = match *step {
+        Step::None => [0, 0, 0],
+        Step::Record { start, length } => [1, start, length],
+        Step::End => [2, 0, 0],
+    };
+    [side, number, record, item, code, case, start, length]
+}

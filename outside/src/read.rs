@@ -1,0 +1,332 @@
+//! Reading: 1, 2, 3, then records in file order and items in item order
+//! (4 and 5 as met), then 6 by item, then 7.
+
+use crate::chars::{
+    code_text, digits, filled_code_text, free_text, number, passbook_text, real_date, spaces, zeros,
+};
+use crate::layout::{is_table_code, Kind, PairKind, Record, MOST_RECORDS};
+use crate::model::Answer;
+use std::collections::HashSet;
+
+/// The answer for one file.
+pub fn read(kind: u32, file: &[u8]) -> Answer {
+    match open(kind, file) {
+        Ok(_) => Answer::accepted(),
+        Err(answer) => answer,
+    }
+}
+
+/// A file taken apart.
+#[derive(Clone, Debug)]
+pub struct Records<'a> {
+    pub kind: Kind,
+    pub header: Record<'a>,
+    pub data: Vec<Record<'a>>,
+    pub trailer: Record<'a>,
+}
+
+/// The records of an accepted file, or the reader's answer.
+pub fn open(kind: u32, file: &[u8]) -> Result<Records<'_>, Answer> {
+    let kind = Kind::known(kind).ok_or(Answer::without_place(1))?;
+    let records = take_apart(kind, file)?;
+    check_items(&records)?;
+    check_totals(&records)?;
+    check_keys(&records)?;
+    Ok(records)
+}
+
+/// Whole records, at least two, not too many: first the header, last the
+/// trailer, and all between are data records.
+fn take_apart(kind: Kind, file: &[u8]) -> Result<Records<'_>, Answer> {
+    let length = kind.record_length();
+    if !file.len().is_multiple_of(length) || file.len() < 2 * length {
+        return Err(Answer::without_place(2));
+    }
+    if file.len() / length - 2 > MOST_RECORDS {
+        return Err(Answer::without_place(3));
+    }
+    let (header, rest) = file.split_at(length);
+    let (data, trailer) = rest.split_at(rest.len() - length);
+    Ok(Records {
+        kind,
+        header: Record::new(header, kind.header()),
+        data: data.chunks_exact(length).map(|bytes| Record::new(bytes, kind.data())).collect(),
+        trailer: Record::new(trailer, kind.trailer()),
+    })
+}
+
+/// Numbers 4 and 5, as met.
+fn check_items(file: &Records) -> Result<(), Answer> {
+    check_header(&Checked::new(file.header, 0), file.kind)?;
+    for (before, data) in file.data.iter().enumerate() {
+        let record = Checked::new(*data, before + 1);
+        check_beginning(&record, &file.header)?;
+        match file.kind.pair() {
+            PairKind::Enrolment => check_enrolment(&record, file.kind, &file.header)?,
+            PairKind::Debit => check_debit(&record, file.kind)?,
+        }
+    }
+    let trailer = Checked::new(file.trailer, file.data.len() + 1);
+    check_trailer(&trailer, file.kind, &file.header)
+}
+
+/// A record that is being checked, with its number in the file.
+struct Checked<'a> {
+    record: Record<'a>,
+    place: usize,
+}
+
+impl<'a> Checked<'a> {
+    fn new(record: Record<'a>, place: usize) -> Checked<'a> {
+        Checked { record, place }
+    }
+
+    fn item(&self, item: usize) -> &'a [u8] {
+        self.record.item(item)
+    }
+
+    /// The item keeps a rule, or it is 4 with this code.
+    fn keeps(&self, item: usize, rule: bool, code: &[u8; 4]) -> Result<(), Answer> {
+        if rule {
+            Ok(())
+        } else {
+            Err(Answer::broken(self.place, item, code))
+        }
+    }
+
+    /// The item agrees with the kind or the header, or it is 5.
+    fn agrees(&self, item: usize, agreement: bool) -> Result<(), Answer> {
+        if agreement {
+            Ok(())
+        } else {
+            Err(Answer::placed(5, self.place, item))
+        }
+    }
+
+    /// The item is of a character class.
+    fn class(&self, item: usize, class: fn(&[u8]) -> bool, code: &[u8; 4]) -> Result<(), Answer> {
+        self.keeps(item, class(self.item(item)), code)
+    }
+
+    fn fixed(&self, item: usize, bytes: &[u8]) -> Result<(), Answer> {
+        self.keeps(item, self.item(item) == bytes, b"0081")
+    }
+
+    /// "sp"
+    fn spaces(&self, item: usize) -> Result<(), Answer> {
+        self.class(item, spaces, b"0089")
+    }
+
+    /// "zero"
+    fn zero(&self, item: usize) -> Result<(), Answer> {
+        self.class(item, zeros, b"0090")
+    }
+
+    /// The item repeats the same item of the header.
+    fn as_header(&self, item: usize, header: &Record) -> Result<(), Answer> {
+        self.agrees(item, self.item(item) == header.item(item))
+    }
+}
+
+fn check_header(header: &Checked, kind: Kind) -> Result<(), Answer> {
+    header.fixed(1, b"H")?;
+    header.fixed(2, b"00000000")?;
+    let code = header.item(3);
+    header.keeps(3, code.starts_with(b"99") && digits(code), b"0088")?;
+    let (name_kind, name_day) = header.item(4).split_at(4);
+    header.agrees(4, name_kind == kind.letters())?;
+    header.keeps(4, digits(name_day), b"0088")?;
+    let date = header.item(5);
+    header.keeps(5, digits(date), b"0088")?;
+    header.keeps(5, real_date(date), b"9998")?;
+    header.agrees(5, &date[2..] == name_day)?;
+    match kind.pair() {
+        PairKind::Enrolment => header.spaces(6),
+        PairKind::Debit => {
+            header.class(6, digits, b"0011")?;
+            header.class(7, filled_code_text, b"0098")?;
+            header.spaces(8)
+        }
+    }
+}
+
+/// Every data record begins with these three.
+fn check_beginning(record: &Checked, header: &Record) -> Result<(), Answer> {
+    record.fixed(1, b"R")?;
+    record.fixed(2, format!("{:08}", record.place).as_bytes())?;
+    record.as_header(3, header)
+}
+
+fn check_enrolment(record: &Checked, kind: Kind, header: &Record) -> Result<(), Answer> {
+    let date = record.item(4);
+    let in_time = real_date(date) && number(date) <= number(header.item(5));
+    record.keeps(4, in_time, b"A011")?;
+    record.class(5, |kind| matches!(kind, b"1" | b"3" | b"7"), b"A012")?;
+    record.class(6, filled_code_text, b"0098")?;
+    record.class(7, digits, b"0011")?;
+    record.class(8, filled_code_text, b"0098")?;
+    if record.item(5) == b"3" {
+        record.class(9, code_text, b"0098")?;
+    } else {
+        record.class(9, filled_code_text, b"0098")?;
+    }
+    record.spaces(10)?;
+    record.class(11, code_text, b"0098")?;
+    if kind.is_request() {
+        record.spaces(12)?;
+    } else {
+        record.class(12, enrolment_result, b"0088")?;
+    }
+    record.spaces(13)?;
+    record.class(14, free_text, b"0088")?;
+    record.spaces(15)?;
+    record.spaces(16)
+}
+
+fn check_debit(record: &Checked, kind: Kind) -> Result<(), Answer> {
+    record.class(4, digits, b"0011")?;
+    record.class(5, filled_code_text, b"0098")?;
+    record.class(6, digits, b"0088")?;
+    let amount = amount(&record.record);
+    record.keeps(6, amount != 0, b"0061")?;
+    record.class(7, code_text, b"0098")?;
+    if kind.is_request() {
+        record.spaces(8)?;
+    } else {
+        record.class(8, debit_result, b"0088")?;
+    }
+    record.class(9, passbook_text, b"0068")?;
+    record.class(10, code_text, b"0098")?;
+    record.class(11, filled_code_text, b"0098")?;
+    record.class(12, free_text, b"0088")?;
+    let debit_type = record.item(13);
+    record.keeps(13, matches!(debit_type, [b'0'..=b'6']), b"0075")?;
+    if kind.is_request() {
+        record.keeps(13, amount >= 140 || debit_type == b"1", b"0075")?;
+    }
+    record.class(14, free_text, b"0088")?;
+    record.spaces(15)
+}
+
+/// EB14: "N" and a table code.
+fn enrolment_result(result: &[u8]) -> bool {
+    result[0] == b'N' && is_table_code(&result[1..])
+}
+
+/// EB22: "N" and a table code, or "P" and a table code or four spaces.
+fn debit_result(result: &[u8]) -> bool {
+    let (mark, code) = (result[0], &result[1..]);
+    match mark {
+        b'N' => is_table_code(code),
+        b'P' => is_table_code(code) || spaces(code),
+        _ => false,
+    }
+}
+
+/// The class of all trailer items; the values of counts and sums come later.
+fn check_trailer(trailer: &Checked, kind: Kind, header: &Record) -> Result<(), Answer> {
+    trailer.fixed(1, b"T")?;
+    trailer.fixed(2, b"99999999")?;
+    trailer.as_header(3, header)?;
+    trailer.as_header(4, header)?;
+    trailer.class(5, digits, b"0088")?;
+    trailer.class(6, digits, b"0088")?;
+    match kind {
+        Kind::EB13 | Kind::EB14 => {
+            trailer.zero(7)?;
+            trailer.class(8, digits, b"0088")?;
+            trailer.class(9, digits, b"0088")?;
+            trailer.spaces(10)?;
+            if kind.is_request() {
+                trailer.spaces(11)
+            } else {
+                trailer.class(11, free_text, b"0088")
+            }
+        }
+        Kind::EB21 => {
+            trailer.class(7, digits, b"0088")?;
+            trailer.zero(8)?;
+            trailer.zero(9)?;
+            trailer.spaces(10)?;
+            trailer.spaces(11)
+        }
+        Kind::EB22 => {
+            trailer.class(7, digits, b"0088")?;
+            trailer.class(8, digits, b"0088")?;
+            trailer.class(9, digits, b"0088")?;
+            trailer.class(10, digits, b"0088")?;
+            trailer.zero(11)?;
+            trailer.class(12, digits, b"0088")?;
+            trailer.zero(13)?;
+            trailer.spaces(14)?;
+            trailer.class(15, free_text, b"0088")
+        }
+    }
+}
+
+/// Number 6, by item.
+fn check_totals(file: &Records) -> Result<(), Answer> {
+    for (item, given) in totals(file.kind, &file.data) {
+        if number(file.trailer.item(item)) != Some(given) {
+            return Err(Answer::placed(6, file.data.len() + 1, item));
+        }
+    }
+    Ok(())
+}
+
+/// The counts and sums that the records give: the trailer's item, its value.
+pub fn totals(kind: Kind, data: &[Record]) -> Vec<(usize, u64)> {
+    let n = data.len() as u64;
+    match kind {
+        Kind::EB13 | Kind::EB14 => vec![
+            (5, n),
+            (6, count(data, |record| record.item(5) == b"1")),
+            (8, count(data, |record| record.item(5) == b"3")),
+            (9, count(data, |record| record.item(5) == b"7")),
+        ],
+        Kind::EB21 => vec![(5, n), (6, n), (7, sum(data, |_| true))],
+        Kind::EB22 => vec![
+            (5, n),
+            (6, count(data, |record| mark(record) == b'N')),
+            (7, sum(data, |record| mark(record) == b'N')),
+            (8, count(data, |record| mark(record) == b'P')),
+            (9, sum(data, |record| mark(record) == b'P')),
+        ],
+    }
+}
+
+fn count(data: &[Record], which: fn(&Record) -> bool) -> u64 {
+    data.iter().filter(|record| which(record)).count() as u64
+}
+
+fn sum(data: &[Record], which: fn(&Record) -> bool) -> u64 {
+    data.iter().filter(|record| which(record)).map(amount).sum()
+}
+
+/// The amount of a debit record; an amount that isn't digits counts nothing
+/// (its record is refused anyway).
+pub fn amount(debit: &Record) -> u64 {
+    number(debit.item(6)).unwrap_or(0)
+}
+
+/// The mark of a debit result.
+pub fn mark(debit: &Record) -> u8 {
+    debit.item(8)[0]
+}
+
+/// Number 7: the smallest record number that repeats an earlier key.
+fn check_keys(file: &Records) -> Result<(), Answer> {
+    let pair = file.kind.pair();
+    let mut earlier = HashSet::new();
+    for (before, record) in file.data.iter().enumerate() {
+        if !earlier.insert(key(pair, record)) {
+            return Err(Answer::placed(7, before + 1, pair.key_item()));
+        }
+    }
+    Ok(())
+}
+
+/// The key of a data record: the bytes of both its items.
+pub fn key<'a>(pair: PairKind, record: &Record<'a>) -> [&'a [u8]; 2] {
+    pair.key().map(|item| record.item(item))
+}
