@@ -5,3 +5,4 @@ pub mod Sums
 pub mod Parts
 pub mod Every
 pub mod Joins
+pub mod Tabs

@@ -9,7 +9,7 @@ use native.Mathlib.Omega.{arith}
 use borrow.Author.Tests.{eqb-true, eq-eqb, ne-eqb, not-false}
 use lib.Dec.{eqb}
 use lib.ListN.{length, getD, take, drop, length-drop}
-use lib.Seq.{getD-take, getD-drop, ext-getD, length-take-le, take-all}
+use lib.Seq.{getD-take, getD-drop, ext-getD, length-take-le, take-all, take-add, drop-drop}
 use Rattle.laws.specs.Least.{least, none}
 use Rattle.laws.specs.Part.{part, differ, same}
 use Rattle.laws.proofs.Bools.{and-left, and-right}
@@ -101,3 +101,8 @@ part-part a b c d s h g = ext-getD 0 (part a b (part c d s)) (part (c + a) b s) 
         let k : i < b = omega (arith, here) in
         rw (part-at a b (part c d s) i k, part-at c d s (a + i) (omega arith), part-at (c + a) b s i k)
         (ap (λ (x : ℕ). getD s x 0) (omega arith))
+
+-- two parts that lie side by side make up one
+pub part-join : (a b c : ℕ) (x y : List ℕ) → part a b x ≡ part a b y → part (a + b) c x ≡ part (a + b) c y → part a (b + c) x ≡ part a (b + c) y
+unfolding part
+part-join a b c x y e f = rw (take-add b c (drop a x), take-add b c (drop a y), drop-drop b a x, drop-drop b a y, e, f)

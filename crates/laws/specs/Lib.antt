@@ -3,3 +3,4 @@ pub mod Least
 pub mod Sum
 pub mod Part
 pub mod Joined
+pub mod Tabulate

@@ -5,9 +5,9 @@ ghost use Rattle.tables.specs.Kinds.{fixedOf};
 ghost use Rattle.layout.specs.Judging.{brokenAt, judgeOf};
 use crate::answers::Answer;
 use crate::rules;
+use rows::records;
 use tables::kinds::Kind;
 use tables::kinds::Role;
-use tables::records;
 use tables::rows::Row;
 
 // A row with no code is one in which the item disagrees with the kind or the header.

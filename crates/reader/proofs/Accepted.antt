@@ -1,11 +1,11 @@
 -- What is known of an accepted file, for the crates above: nobody unfolds reading again.
 -- Assumes nothing.
-use Prim.Native.Nat.{ℕ, _<_}
+use Prim.Native.Nat.{ℕ, _+_, _<_}
 use mathlib.Core.Bool.{true, _&&_}
 use mathlib.Core.List.{List}
 use mathlib.Core.Path.{_≡_, refl}
 use native.Mathlib.Omega.{arith}
-use borrow.Author.Tests.{eqb-true}
+use borrow.Author.Tests.{eqb-true, ne-eqb}
 use lib.Dec.{leb, eqb}
 use lib.ListN.{length, getD}
 use Rattle.laws.specs.Part.{part}
@@ -13,11 +13,15 @@ use Rattle.laws.proofs.Bools.{and-right}
 use Rattle.text.specs.Characters.{digits}
 use Rattle.text.specs.Numbers.{valueOf, says}
 use Rattle.tables.specs.declared.kinds.Kind.{Kind}
+use Rattle.tables.specs.declared.kinds.Role.the-variants.{Data}
 use Rattle.tables.specs.declared.kinds.Named.{Named}
 use Rattle.tables.specs.declared.kinds.Named.the-variants.{Is, Unknown}
 use Rattle.tables.specs.Kinds.{kindOf}
+use Rattle.tables.specs.Rows.{blank}
+use Rattle.tables.specs.Tables.{rowsOf}
 use Rattle.tables.specs.Totals.{noTotal, totalsOf}
-use Rattle.reader.specs.Records.{trailerOf}
+use Rattle.layout.specs.Rules.{holds}
+use Rattle.reader.specs.Records.{recordOf, countOf, dataOf, roleOf, trailerOf}
 use Rattle.reader.specs.Totals.{quantityOf, totalHolds}
 use Rattle.reader.specs.Reading.{readAs, readNamed, readOf}
 use Rattle.reader.specs.Meets.{Meets}
@@ -54,3 +58,13 @@ read-known kind s z = named-known kind s (kindOf kind) refl z
 pub read-named : (kind : ℕ) (s : List ℕ) (k : Kind) → kindOf kind ≡ Is k → readOf kind s ≡ readAs k s
 unfolding readOf
 read-named kind s k e = rw e
+
+-- row j of a data record of an accepted file holds
+pub data-row :
+    (k : Kind) (s : List ℕ) → Meets k s → (i : ℕ) → i < dataOf k s → (j : ℕ) → j < length (rowsOf k Data) →
+    holds k (recordOf k s (i + 1)) (recordOf k s 0) (i + 1) (getD (rowsOf k Data) j blank) ≡ true
+unfolding roleOf
+data-row k s m i h j l = rw role at (m .rows (i + 1) (omega (arith, m .lengths .fewest)) j (rw role l))
+  where
+    role : roleOf (countOf k s) (i + 1) ≡ Data
+    role = rw (ne-eqb (i + 1) 0 (λ e. omega arith), ne-eqb (i + 1 + 1) (countOf k s) (λ e. omega (arith, m .lengths .fewest)))

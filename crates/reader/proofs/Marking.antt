@@ -1,6 +1,6 @@
--- The marked edge cases, computed: the definitions say what the paper says. And no kind's reader is trivial.
+-- No kind's reader is trivial, computed.
 -- Assumes nothing.
-use mathlib.Core.List.{[], map}
+use mathlib.Core.List.{[]}
 use mathlib.Core.Path.{_≡_, refl}
 use Rattle.laws.specs.Least.{least, further, some, none}
 use Rattle.laws.specs.Part.{part, differ, same}
@@ -10,26 +10,20 @@ use Rattle.text.specs.Numbers.{digitOf, valueTo, valueOf, digitsOf, says, wordO
 use Rattle.text.specs.Dates.{monthDays, leapDay, daysOf, hasDay, isDate}
 use Rattle.tables.specs.declared.kinds.Kind.{Kind}
 use Rattle.tables.specs.declared.kinds.Kind.the-variants.{EB13, EB14, EB21, EB22}
-use Rattle.tables.specs.Kinds.{kindOf}
-use Rattle.tables.specs.Tables.{headerFront, enrolmentHeader, debitHeader, dataFront, debitData, eb21Data, trailerFront, enrolmentTrailer, eb13Trailer, eb14Trailer, eb21Trailer, eb22Trailer}
+use Rattle.tables.specs.Tables.{headerFront, enrolmentHeader, debitHeader, trailerFront, enrolmentTrailer, eb13Trailer, eb14Trailer, eb21Trailer, eb22Trailer}
 use Rattle.tables.specs.Totals.{enrolmentTotals, eb21Totals, eb22Totals}
 use Rattle.layout.specs.Answers.{accepted, refused, refuses, _then_, refusesAt, toldAt, firstTold}
-use Rattle.layout.specs.Rules.{institution, enough, meets, holds}
+use Rattle.layout.specs.Rules.{institution, meets, holds}
 use Rattle.layout.specs.Judging.{rowTells, judgeBy, judgeOf}
 use Rattle.reader.specs.Records.{recordAt, countOf, roleOf, judgedAt, recordsTell}
 use Rattle.reader.specs.Totals.{worth, worthAt, quantityOf, totalHolds, totalTells, totalsTell}
 use Rattle.reader.specs.Keys.{repeats, repeatTold, keysTell}
-use Rattle.reader.specs.Reading.{isWhole, lengthTells, readAs, readOf}
-use Rattle.reader.specs.Samples.{all, code, payer, letters, headerRest, headerFor, recordFor, trailerRest, trailerFor, emptyFile}
-use Rattle.reader.specs.Marked.{Case, ofRecord, ofHeader, ofFile, account, brokenAccount, cases}
-
-pub marked-cases : map (λ (c : Case). c .said) cases ≡ map (λ (c : Case). c .paper) cases
-unfolding least further some none part differ same sum within takes stopsAt front each digits spaces zeros codeText filled digitOf valueTo valueOf digitsOf says wordOf monthDays leapDay daysOf hasDay isDate kindOf institution enough meets holds headerFront debitHeader dataFront debitData eb21Data trailerFront eb21Trailer eb21Totals refuses _then_ refusesAt toldAt firstTold rowTells judgeBy judgeOf recordAt countOf roleOf judgedAt recordsTell worth worthAt quantityOf totalHolds totalTells totalsTell repeats repeatTold keysTell isWhole lengthTells readAs readOf all code payer letters headerRest headerFor recordFor trailerRest trailerFor emptyFile ofRecord ofHeader ofFile account brokenAccount cases
-marked-cases = refl
+use Rattle.reader.specs.Reading.{isWhole, lengthTells, readAs}
+use Rattle.reader.specs.Samples.{all, code, letters, headerRest, headerFor, trailerFor, noTotals, emptyOn, emptyFile}
 
 -- *Not trivial*: for each kind a file is accepted and another refused
 pub not-trivial : (k : Kind) → (readAs k (emptyFile k) ≡ accepted) × (readAs k [] ≡ refused 2)
-unfolding least further some none part differ same sum within takes stopsAt front each digits spaces zeros codeText filled digitOf valueTo valueOf digitsOf says wordOf monthDays leapDay daysOf hasDay isDate institution meets holds headerFront enrolmentHeader debitHeader trailerFront enrolmentTrailer eb13Trailer eb14Trailer eb21Trailer eb22Trailer enrolmentTotals eb21Totals eb22Totals refuses _then_ refusesAt toldAt firstTold rowTells judgeBy judgeOf recordAt countOf roleOf judgedAt recordsTell worth worthAt quantityOf totalHolds totalTells totalsTell repeats repeatTold keysTell isWhole lengthTells readAs all code letters headerRest headerFor trailerRest trailerFor emptyFile
+unfolding least further some none part differ same sum within takes stopsAt front each digits spaces zeros codeText filled digitOf valueTo valueOf digitsOf says wordOf monthDays leapDay daysOf hasDay isDate institution meets holds headerFront enrolmentHeader debitHeader trailerFront enrolmentTrailer eb13Trailer eb14Trailer eb21Trailer eb22Trailer enrolmentTotals eb21Totals eb22Totals refuses _then_ refusesAt toldAt firstTold rowTells judgeBy judgeOf recordAt countOf roleOf judgedAt recordsTell worth worthAt quantityOf totalHolds totalTells totalsTell repeats repeatTold keysTell isWhole lengthTells readAs all code letters headerRest headerFor noTotals trailerFor emptyOn emptyFile
 not-trivial EB13 = (refl, refl)
 not-trivial EB14 = (refl, refl)
 not-trivial EB21 = (refl, refl)

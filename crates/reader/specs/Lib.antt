@@ -6,4 +6,3 @@ pub mod Reading
 pub mod Meets
 pub mod First
 pub mod Samples
-pub mod Marked

@@ -1,4 +1,4 @@
--- Sample records and files, built item by item.
+-- Sample headers, trailers and files, built item by item.
 use Prim.Native.Nat.{ℕ}
 use mathlib.Core.List.{List, [], _∷_, _++_}
 use lib.ListN.{replicate}
@@ -13,12 +13,9 @@ all (s ∷ ss) = s ++ all ss
 abbrev pub blanks : ℕ → List ℕ
 blanks n = replicate n 0x20
 
--- the institution of the samples, and a payer of theirs
+-- the institution of the samples
 unfoldable pub code : List ℕ
 code = digitsOf 10 9912345678
-
-unfoldable pub payer : List ℕ
-payer = digitsOf 6 100200 ++ blanks 14
 
 -- a kind's four letters
 unfoldable pub letters : Kind → List ℕ
@@ -39,23 +36,20 @@ unfoldable pub headerFor : Kind → ℕ → ℕ → List ℕ
 headerFor k year day =
     all ((0x48 ∷ []) ∷ digitsOf 8 0 ∷ code ∷ letters k ∷ digitsOf 4 day ∷ digitsOf 2 year ∷ digitsOf 4 day ∷ headerRest k ∷ [])
 
--- an EB21 data record 1, items 1 to 15, with the account, the amount and the digit of the type
-unfoldable pub recordFor : List ℕ → ℕ → ℕ → List ℕ
-recordFor account amount type =
-    all (
-    (0x52 ∷ []) ∷ digitsOf 8 1 ∷ code ∷ digitsOf 7 40000 ∷ account ∷ digitsOf 13 amount ∷ blanks 13 ∷ blanks 5 ∷
-    blanks 16 ∷ blanks 2 ∷ payer ∷ blanks 5 ∷ digitsOf 1 type ∷ blanks 12 ∷ blanks 21 ∷ [])
+-- a trailer for the day, with what follows its item 4
+unfoldable pub trailerFor : Kind → ℕ → List ℕ → List ℕ
+trailerFor k day rest = all ((0x54 ∷ []) ∷ digitsOf 8 99999999 ∷ code ∷ letters k ∷ digitsOf 4 day ∷ rest ∷ [])
 
--- what follows item 4 of the trailer of a file of no data records: zeros, then spaces
-unfoldable pub trailerRest : Kind → List ℕ
-trailerRest EB13 = digitsOf 40 0 ++ blanks 53
-trailerRest EB14 = digitsOf 40 0 ++ blanks 53
-trailerRest EB21 = digitsOf 50 0 ++ blanks 73
-trailerRest EB22 = digitsOf 84 0 ++ blanks 39
-
-unfoldable pub trailerFor : Kind → ℕ → List ℕ
-trailerFor k day = all ((0x54 ∷ []) ∷ digitsOf 8 99999999 ∷ code ∷ letters k ∷ digitsOf 4 day ∷ trailerRest k ∷ [])
+-- that of a file of no data records: zeros, then spaces
+unfoldable pub noTotals : Kind → List ℕ
+noTotals EB13 = digitsOf 40 0 ++ blanks 53
+noTotals EB14 = digitsOf 40 0 ++ blanks 53
+noTotals EB21 = digitsOf 50 0 ++ blanks 73
+noTotals EB22 = digitsOf 84 0 ++ blanks 39
 
 -- a header and a trailer, no data records
+unfoldable pub emptyOn : Kind → ℕ → ℕ → List ℕ
+emptyOn k year day = headerFor k year day ++ trailerFor k day (noTotals k)
+
 unfoldable pub emptyFile : Kind → List ℕ
-emptyFile k = headerFor k 24 229 ++ trailerFor k 229
+emptyFile k = emptyOn k 24 229

@@ -28,7 +28,8 @@ fn length_tells(kind: Kind, file: &[u8]) -> Answer
     Answer::refused(2)
 }
 
-fn read_as(kind: Kind, file: &[u8]) -> Answer
+// Reads any bytes as a file of a kind.
+pub fn read_as(kind: Kind, file: &[u8]) -> Answer
     ensures { λ r. ⌜ r ≡ readAs kind (now (file .entry)) ⌝ }
 {
     let of_length = length_tells(kind, file);

@@ -48,7 +48,8 @@ fn worth(quantity: Quantity, rec: &[u8]) -> u64
     }
 }
 
-fn worth_at(kind: Kind, file: &[u8], quantity: Quantity, i: usize) -> u64
+// What data record i + 1 adds to a quantity.
+pub fn worth_at(kind: Kind, file: &[u8], quantity: Quantity, i: usize) -> u64
     requires { ⌜ i + 1 < countOf kind (now file) ⌝ }
     ensures { λ r. ⌜ r ≡ worthAt kind (now (file .entry)) quantity i ⌝ }
     ensures { λ r. ⌜ r < 10 ^ 13 ⌝ }

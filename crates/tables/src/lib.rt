@@ -2,6 +2,5 @@
 pub mod codes;
 pub mod copied;
 pub mod kinds;
-pub mod records;
 pub mod rows;
 pub mod totals;

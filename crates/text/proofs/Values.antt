@@ -14,7 +14,7 @@ use lib.Dec.{eqb}
 use lib.ListN.{length, getD, take, length-append, List·getD-append}
 use lib.Seq.{take-suc, take-length, getD-at}
 use Rattle.laws.proofs.Bools.{and-left, either}
-use Rattle.text.specs.Characters.{within, digits}
+use Rattle.text.specs.Characters.{within, digits, zeros}
 use Rattle.text.specs.Numbers.{digitOf, valueTo, valueOf, digitsOf}
 use Rattle.text.specs.Dates.{hasDay, isDate}
 use Rattle.laws.specs.Part.{part}
@@ -120,3 +120,19 @@ isDate-length s t =
 pub value-size : (s : List ℕ) (w : ℕ) → length s ≡ w → valueOf s < 10 ^ w
 unfolding valueOf
 value-size s w e = value-within s (length s) w (le-of-eq e)
+
+-- digits of no value are all "0"
+value-zero : (s : List ℕ) (w : ℕ) → valueTo s w ≡ 0 → (k : ℕ) → k < w → digitOf (getD s k 0) ≡ 0
+unfolding valueTo
+value-zero s zero e k h = absurd (not-suc-le-zero h)
+value-zero s (suc w) e k h = ⊎-elim (λ q. rw q (omega arith)) (λ l. value-zero s w (omega arith) k l) (eq-or-lt-of-le (le-of-suc-le-suc h))
+
+pub zeros-if : (s : List ℕ) → digits s ≡ true → valueOf s ≡ 0 → zeros s ≡ true
+unfolding digits zeros valueOf
+zeros-if s t e = each-if 0x30 0x30 s place
+  where
+    place : (k : ℕ) → k < length s → within 0x30 0x30 (getD s k 0) ≡ true
+    place k h =
+        let is = each-at 0x30 0x39 s t k h in
+        within-if 0x30 0x30 (getD s k 0) (within-low 0x30 0x39 (getD s k 0) is)
+        (omega (arith, digitOf-is (getD s k 0) is, value-zero s (length s) e k h))

@@ -31,3 +31,7 @@ digitsOf (suc w) n = digitsOf w (n / 10) ++ ((0x30 + n % 10) ∷ [])
 -- four bytes as one number, the first of them highest
 unfoldable pub wordOf : List ℕ → ℕ
 wordOf s = ((getD s 0 0 * 256 + getD s 1 0) * 256 + getD s 2 0) * 256 + getD s 3 0
+
+-- letter d of a word: the four bytes again
+unfoldable pub letterOf : ℕ → ℕ → ℕ
+letterOf word d = cond (eqb d 0) (word / 0x1000000 % 256) (cond (eqb d 1) (word / 0x10000 % 256) (cond (eqb d 2) (word / 0x100 % 256) (word % 256)))

@@ -2,7 +2,7 @@
 ghost use mathlib.Core.Path.{_≡_};
 ghost use Prim.Native.Nat.{_≤_, _<_};
 ghost use lib.ListN.{length, getD};
-ghost use Rattle.text.specs.Numbers.{digitOf, valueOf, says, wordOf};
+ghost use Rattle.text.specs.Numbers.{digitOf, valueOf, says, wordOf, letterOf, digitsOf};
 use crate::characters;
 use crate::parts;
 
@@ -56,4 +56,37 @@ fn wide(s: &[u8], at: usize) -> u64
     ensures { λ r. ⌜ r < 256 ⌝ }
 {
     parts::byte(s, at) as u64
+}
+
+// Letter d of a word: the four bytes again.
+pub fn letter(word: u64, d: usize) -> u8
+    ensures { λ r. ⌜ r ≡ letterOf word d ⌝ }
+{
+    if d == 0 {
+        return (word / 0x100_0000 % 256) as u8;
+    }
+    if d == 1 {
+        return (word / 0x1_0000 % 256) as u8;
+    }
+    if d == 2 {
+        return (word / 0x100 % 256) as u8;
+    }
+    (word % 256) as u8
+}
+
+// Digit d, from the left, of the w digits of n; nothing past them.
+pub fn digit_at(n: u64, w: usize, d: usize) -> u8
+    requires { ⌜ w < 1000 ⌝ }
+    ensures { λ r. ⌜ r ≡ getD (digitsOf w n) d 0 ⌝ }
+{
+    if w <= d {
+        return 0;
+    }
+    let mut rest = n;
+    let mut at = w;
+    while d + 1 < at {
+        rest = rest / 10;
+        at -= 1;
+    }
+    b'0' + (rest % 10) as u8
 }

@@ -1,0 +1,2 @@
+// The rows of every record, as constant tables.
+pub mod records;
