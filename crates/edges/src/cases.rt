@@ -1,13 +1,10 @@
-// A case is one line: its name, the kind it is read as, how many data records the file has, how many bytes of it
-// are read, and what stands in it instead of what is good, each as RECORD@PLACE=BYTES.
+// The list of cases: lines, and the words that change a file.
 ghost use Prim.Native.Nat.{_≤_};
 use crate::files;
 use crate::good;
-use crate::told;
+use crate::reads;
 use crate::words;
-use layout::answers::Answer;
-use reader::reading;
-use text::parts;
+use crate::writes;
 
 // Puts what one word of a case says into the file.
 fn change(file: &mut [u8], size: usize, word: &[u8])
@@ -31,38 +28,24 @@ fn change_all(file: &mut [u8], size: usize, changes: &[u8])
     }
 }
 
-// Reads the file's first bytes; all where it has fewer.
-fn read_first(kind: u64, file: &[u8], bytes: usize) -> Answer {
-    if bytes <= file.len() {
-        return reading::read(kind, parts::part(file, 0, bytes));
-    }
-    reading::read(kind, file)
+// The file that a case says: a good one of so many data records, with the changes that the words from n on say.
+pub(crate) fn build(kind: u64, file: &mut [u8], line: &[u8], n: usize) {
+    good::build(kind, file, words::number(words::word(2, line)));
+    change_all(file, good::size_of(kind), words::after(n, line));
 }
 
-// Builds the case that a line says, reads it and tells the answer.
-fn run(line: &[u8], file: &mut [u8]) {
-    let after_name = words::tail(b' ', line);
-    let after_kind = words::tail(b' ', after_name);
-    let after_records = words::tail(b' ', after_kind);
-    let kind = words::kind(words::head(b' ', after_name));
-    let records = words::number(words::head(b' ', after_kind));
-    let bytes = words::number(words::head(b' ', after_records));
-    good::build(kind, file, records);
-    change_all(file, good::size_of(kind), words::tail(b' ', after_records));
-    told::tell(words::head(b' ', line), read_first(kind, file, bytes));
-}
-
-// A line that begins with # says what follows, and an empty line parts. Every case has a file of its own, so that
-// none sees another's bytes.
+// A line that begins with # says what follows, and an empty line parts; one that begins with + or * is a case of
+// writing, and with * the records are shown too; any other is a case of reading.
 fn run_line(line: &[u8]) {
     if line.len() == 0 {
         return;
     }
-    if line[0] == b'#' {
-        return;
+    match line[0] {
+        b'#' => {}
+        b'+' => writes::run(line, false),
+        b'*' => writes::run(line, true),
+        _ => reads::run(line),
     }
-    let mut file = io::large_buffer();
-    run(line, &mut file);
 }
 
 // Runs every line of the list.

@@ -94,7 +94,7 @@ fn put_all(file: &mut [u8], sample: &[u8], size: usize, payer: usize, n: usize)
 
 // Bytes of a record.
 pub(crate) fn size_of(kind: u64) -> usize
-    ensures { λ r. ⌜ r ≤ 150 ⌝ }
+    ensures { λ r. ⌜ (19 ≤ r) × (r ≤ 150) ⌝ }
 {
     match kind {
         IS_EB13 | IS_EB14 => 120,

@@ -40,6 +40,23 @@ pub(crate) fn tail(b: u8, s: &[u8]) -> &[u8] {
     parts::rest(s, past(b, s))
 }
 
+// What stands after the first n words.
+pub(crate) fn after(n: usize, line: &[u8]) -> &[u8] {
+    let mut left = line;
+    let mut i = 0;
+    while i < n {
+        let next = past(b' ', left);
+        left = &left[next..];
+        i += 1;
+    }
+    left
+}
+
+// The word that n others stand before.
+pub(crate) fn word(n: usize, line: &[u8]) -> &[u8] {
+    head(b' ', after(n, line))
+}
+
 // The number that a word of at most five digits says; a longer one says nothing.
 pub(crate) fn number(s: &[u8]) -> usize
     ensures { λ r. ⌜ r < 100000 ⌝ }

@@ -19,10 +19,11 @@ use Rattle.tables.specs.Kinds.{fixedOf}
 use Rattle.reader.specs.Records.{recordAt, recordOf, countOf}
 use Rattle.reader.specs.Totals.{worth, worthAt, quantityOf}
 use Rattle.reader.proofs.Places.{size-pos}
-use Rattle.writer.specs.Bytes.{tabulate}
+use Rattle.laws.specs.Tabulate.{tabulate}
 use Rattle.writer.specs.Records.{Head, headerBuilt, dataBuilt, bodyCount, builtWorth, builtQuantity, builtTotal, builtTotals, fileTotal, trailerBuilt}
 use Rattle.writer.specs.Files.{frontOf, fileOf}
-use Rattle.writer.proofs.Tabs.{header-length, data-length, trailer-length, tab-same}
+use Rattle.writer.proofs.Lengths.{header-length, data-length, trailer-length}
+use Rattle.laws.proofs.Tabs.{tab-same}
 use Rattle.writer.proofs.Stores.{store-next, part-front, part-behind}
 
 worth-same : (k : Kind) (s : List ℕ) (g : ℕ → List ℕ) (q : Quantity) (i : ℕ) → recordOf k s (i + 1) ≡ g i → worthAt k s q i ≡ worth q (g i)

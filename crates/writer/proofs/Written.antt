@@ -1,9 +1,10 @@
 -- The cases of writing: what is answered, and what the room holds.
 -- Assumes nothing.
 use Prim.Native.Nat.{ℕ, _+_, _*_, _≤_, _<_}
-use mathlib.Core.Bool.{true, false}
+use mathlib.Core.Bool.{Bool, true, false}
 use mathlib.Core.List.{List, _++_}
 use mathlib.Core.Path.{_≡_, sym, _∙_, ap}
+use native.Mathlib.Omega.{arith}
 use borrow.Author.Tests.{le-leb, lt-leb, eq-eqb, ne-eqb}
 use lib.ListN.{length, drop}
 use Rattle.tables.specs.declared.kinds.Kind.{Kind}
@@ -46,6 +47,30 @@ module _ (k : Kind) (h : Head) (bodies room : List ℕ) where
   unfolding writeAs
   write-read t l r = rw (t, le-leb (bodyCount k bodies) limit l, le-leb ((bodyCount k bodies + 2) * fixedOf k .size) (length room) r)
 
-  -- the same with what the room holds
-  pub told-bad : (number : ℕ) (a : Answer) → (number ≡ 0 → ⊥) → a ≡ refused number → writeAs k h bodies (length room) ≡ refused number → (a ≡ writeAs k h bodies (length room)) × (room ≡ afterAs k h bodies room)
+  -- an answer, and what the room holds after it, as writing gives them
+  abbrev pub Told : Answer → List ℕ → Type 0
+  Told a after = (a ≡ writeAs k h bodies (length room)) × (after ≡ afterAs k h bodies room)
+
+  told-bad : (number : ℕ) (a : Answer) → (number ≡ 0 → ⊥) → a ≡ refused number → writeAs k h bodies (length room) ≡ refused number → Told a room
   told-bad number a ne e w = (e ∙ sym w, sym (after-bad (λ z. ne (ap (λ (x : Answer). x .number) (sym w) ∙ z))))
+
+  -- each return of the writer, from the tests on its way
+  module _ (a : Answer) (fit : Bool) (is : fit ≡ partsFit h bodies (size6 k) (size7 k) (fixedOf k .body)) where
+    pub told-2 : fit ≡ false → a ≡ refused 2 → Told a room
+    told-2 f e = told-bad 2 a (λ z. omega arith) e (write-2 (sym is ∙ f))
+
+    pub told-3 : fit ≡ true → limit < bodyCount k bodies → a ≡ refused 3 → Told a room
+    told-3 t l e = told-bad 3 a (λ z. omega arith) e (write-3 (sym is ∙ t) l)
+
+    pub told-8 : fit ≡ true → bodyCount k bodies ≤ limit → length room < (bodyCount k bodies + 2) * fixedOf k .size → a ≡ refused 8 → Told a room
+    told-8 t l r e = told-bad 8 a (λ z. omega arith) e (write-8 (sym is ∙ t) l r)
+
+    module _ (t : fit ≡ true) (l : bodyCount k bodies ≤ limit) (r : (bodyCount k bodies + 2) * fixedOf k .size ≤ length room) (e : a ≡ readAs k (fileOf k h bodies)) where
+      told : a ≡ writeAs k h bodies (length room)
+      told = e ∙ sym (write-read (sym is ∙ t) l r)
+
+      pub told-read : (a .number ≡ 0 → ⊥) → Told a room
+      told-read ne = (told, sym (after-bad (λ z. ne (ap (λ (x : Answer). x .number) told ∙ z))))
+
+      pub told-good : (after : List ℕ) → a .number ≡ 0 → after ≡ fileOf k h bodies ++ drop ((bodyCount k bodies + 2) * fixedOf k .size) room → Told a after
+      told-good after z s = (told, s ∙ sym (after-good (ap (λ (x : Answer). x .number) (sym told) ∙ z)))

@@ -1,7 +1,7 @@
 -- What stands at a place of a record to be written, by the row over it.
-use Prim.Native.Nat.{ℕ, zero, suc, _+_, _/_, _%_}
+use Prim.Native.Nat.{ℕ, _+_}
 use mathlib.Core.Bool.{Bool, cond, _&&_}
-use mathlib.Core.List.{List, [], _∷_, _++_}
+use mathlib.Core.List.{List}
 use lib.Dec.{leb, ltb, eqb}
 use lib.ListN.{length, getD}
 use Rattle.laws.specs.Least.{least}
@@ -9,11 +9,6 @@ use Rattle.tables.specs.declared.rows.Row.{Row}
 use Rattle.tables.specs.declared.rows.Class.{Class}
 use Rattle.tables.specs.declared.rows.Class.the-variants.{Each, CodeText, Filled, Owner, Institution, KindName, Date, NameDate, Serial, AsHeader, NotLater, Application, NotZero, Failed, FailedOrPart, Least}
 use Rattle.tables.specs.Rows.{blank}
-
--- f 0, f 1, .. , f (n - 1)
-unfoldable pub tabulate : (ℕ → ℕ) → ℕ → List ℕ
-tabulate f zero = []
-tabulate f (suc n) = tabulate f n ++ (f n ∷ [])
 
 -- a row is over place j, row i is, the first row that is
 unfoldable pub overRow : Row → ℕ → Bool
@@ -24,10 +19,6 @@ over rows j i = overRow (getD rows i blank) j
 
 unfoldable pub rowOver : List Row → ℕ → Row
 rowOver rows j = getD rows (least (over rows j) (length rows)) blank
-
--- letter d of a name of four letters
-unfoldable pub letterOf : ℕ → ℕ → ℕ
-letterOf name d = cond (eqb d 0) (name / 0x1000000 % 256) (cond (eqb d 1) (name / 0x10000 % 256) (cond (eqb d 2) (name / 0x100 % 256) (name % 256)))
 
 -- what a class writes: its one byte, the kind's letter, the serial's digit, the header's byte; else what is given
 abbrev pub fillBy : Class → ℕ → ℕ → ℕ → ℕ → ℕ

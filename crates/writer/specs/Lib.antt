@@ -2,3 +2,4 @@
 pub mod Bytes
 pub mod Records
 pub mod Files
+pub mod Apart

@@ -15,7 +15,9 @@ use Rattle.tables.specs.Kinds.{fixedOf}
 use Rattle.tables.specs.Tables.{rowsOf}
 use Rattle.tables.specs.Totals.{noTotal, totalsOf}
 use Rattle.reader.specs.Totals.{worth, quantityOf}
-use Rattle.writer.specs.Bytes.{tabulate, rowOver, letterOf, fillBy}
+use Rattle.writer.specs.Bytes.{rowOver, fillBy}
+use Rattle.text.specs.Numbers.{letterOf}
+use Rattle.laws.specs.Tabulate.{tabulate}
 
 -- what a header is written from
 pub record Head : Type 0 where

@@ -1,13 +1,11 @@
 // What stands at a place of a record to be written, by the row over it.
 ghost use mathlib.Core.Path.{_≡_};
 ghost use Prim.Native.Nat.{_+_, _<_};
-ghost use lib.ListN.{getD};
-ghost use Rattle.text.specs.Numbers.{digitsOf};
 ghost use Rattle.tables.specs.Tables.{rowsOf};
-ghost use Rattle.writer.specs.Bytes.{overRow, rowOver, letterOf, fillBy};
+ghost use Rattle.writer.specs.Bytes.{overRow, rowOver, fillBy};
+use rows::records;
 use tables::kinds::Kind;
 use tables::kinds::Role;
-use tables::records;
 use tables::rows::Class;
 use tables::rows::Row;
 
@@ -16,22 +14,6 @@ fn over(row: Row, j: usize) -> bool
     ensures { λ r. ⌜ r ≡ overRow row j ⌝ }
 {
     row.1 <= j && j < row.1 + row.2
-}
-
-// Letter d of a name of four letters.
-pub(crate) fn letter(name: u64, d: usize) -> u8
-    ensures { λ r. ⌜ r ≡ letterOf name d ⌝ }
-{
-    if d == 0 {
-        return (name / 0x100_0000 % 256) as u8;
-    }
-    if d == 1 {
-        return (name / 0x1_0000 % 256) as u8;
-    }
-    if d == 2 {
-        return (name / 0x100 % 256) as u8;
-    }
-    (name % 256) as u8
 }
 
 // What a class writes.
@@ -73,21 +55,4 @@ pub(crate) fn row_over(kind: Kind, role: Role, j: usize) -> Row
         i += 1;
     }
     Row(0, 0, 0, Class::Each(0, 0), 0)
-}
-
-// Digit d, from the left, of the w digits of n; nothing past them.
-pub(crate) fn digit_at(n: u64, w: usize, d: usize) -> u8
-    requires { ⌜ w < 1000 ⌝ }
-    ensures { λ r. ⌜ r ≡ getD (digitsOf w n) d 0 ⌝ }
-{
-    if w <= d {
-        return 0;
-    }
-    let mut rest = n;
-    let mut at = w;
-    while d + 1 < at {
-        rest = rest / 10;
-        at -= 1;
-    }
-    b'0' + (rest % 10) as u8
 }

@@ -8,7 +8,7 @@ ghost use Rattle.reader.specs.Records.{countOf};
 ghost use Rattle.laws.specs.Joined.{joined};
 ghost use Rattle.writer.specs.Records.{headOf, bodyCount, dataBuilt, fileTotal};
 ghost use Rattle.writer.specs.Files.{fileOf};
-ghost use Rattle.writer.specs.Bytes.{tabulate};
+ghost use Rattle.laws.specs.Tabulate.{tabulate};
 use crate::records;
 use tables::kinds::Kind;
 use tables::totals;

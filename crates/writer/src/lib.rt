@@ -1,4 +1,5 @@
 // A request file made: one record at a time, decided before the first byte is stored.
+pub mod apart;
 mod bytes;
 mod files;
 mod records;

@@ -10,6 +10,7 @@ use tables::kinds::Fixed;
 use tables::kinds::Kind;
 use tables::kinds::Role;
 use tables::totals;
+use text::numbers;
 use text::parts;
 
 // Byte d of what is given for an item of the header.
@@ -50,7 +51,7 @@ fn header_byte(kind: Kind, date: &[u8], code: &[u8], item6: &[u8], item7: &[u8],
     let row = bytes::row_over(kind, Role::Header, j);
     let d = past(row.1, j);
     let given = given_byte(date, code, item6, item7, row.0, d);
-    let letter = bytes::letter(Fixed::of(kind).name, d);
+    let letter = numbers::letter(Fixed::of(kind).name, d);
     let class = row.3;
     bytes::fill(class, given, letter, 0, 0)
 }
@@ -71,7 +72,7 @@ fn front_byte(kind: Kind, header: &[u8], n: u64, j: usize) -> u8
     ensures { λ r. ⌜ r ≡ frontFill (rowOver (rowsOf kind Role.Data) j) (now (header .entry)) n j ⌝ }
 {
     let row = bytes::row_over(kind, Role::Data, j);
-    let digit = bytes::digit_at(n, row.2, past(row.1, j));
+    let digit = numbers::digit_at(n, row.2, past(row.1, j));
     let class = row.3;
     bytes::fill(class, 0, 0, digit, parts::byte(header, j))
 }
@@ -99,7 +100,7 @@ fn trailer_byte(kind: Kind, header: &[u8], sums: [u64; 5], j: usize) -> u8
     ensures { λ r. ⌜ r ≡ trailerByte kind (now (header .entry)) sums j ⌝ }
 {
     let row = bytes::row_over(kind, Role::Trailer, j);
-    let digit = bytes::digit_at(total_for(kind, sums, row.0), row.2, past(row.1, j));
+    let digit = numbers::digit_at(total_for(kind, sums, row.0), row.2, past(row.1, j));
     let class = row.3;
     bytes::fill(class, digit, 0, 0, parts::byte(header, j))
 }

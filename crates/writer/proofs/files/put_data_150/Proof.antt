@@ -3,7 +3,7 @@ use Prim.Native.Nat.{_≤_, _-_, _+_, _*_}
 use Rattle.laws.specs.Joined.{joined}
 use Rattle.tables.specs.declared.kinds.Kind.the-variants.{EB21}
 use Rattle.writer.proofs.Stores.{data-start, data-next}
-use Rattle.writer.proofs.Tabs.{data-length}
+use Rattle.writer.proofs.Lengths.{data-length}
 use Rattle.writer.specs.Records.{dataBuilt}
 use borrow.Author.Needs.{needs}
 use lib.ListN.{length, take, drop}

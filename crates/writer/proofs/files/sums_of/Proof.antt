@@ -1,7 +1,7 @@
 -- One total after the other.
 use Prim.Native.Nat.{_≤_, _-_}
-use Rattle.writer.proofs.Tabs.{tab-start, tab-more, tab-end}
-use Rattle.writer.specs.Bytes.{tabulate}
+use Rattle.laws.proofs.Tabs.{tab-start, tab-more, tab-end}
+use Rattle.laws.specs.Tabulate.{tabulate}
 use Rattle.writer.specs.Records.{fileTotal}
 use borrow.Author.Needs.{needs}
 use lib.ListN.{length, take, length-set}

@@ -1,8 +1,8 @@
 -- One byte after the other.
 use Prim.Native.Nat.{_≤_, _-_}
 use Rattle.tables.specs.declared.kinds.Kind.the-variants.{EB21}
-use Rattle.writer.proofs.Tabs.{tab-start, tab-more, tab-end}
-use Rattle.writer.specs.Bytes.{tabulate}
+use Rattle.laws.proofs.Tabs.{tab-start, tab-more, tab-end}
+use Rattle.laws.specs.Tabulate.{tabulate}
 use Rattle.writer.specs.Records.{dataByte, dataBuilt}
 use borrow.Author.Needs.{needs}
 use lib.ListN.{length, take, length-set}

@@ -1,11 +1,9 @@
 -- Refusals first, then the answer of reading; only what is accepted is stored.
-use Rattle.layout.specs.declared.answers.Answer.{Answer}
 use Rattle.tables.specs.declared.kinds.Kind.the-variants.{EB21}
-use Rattle.writer.proofs.Written.{write-2, write-3, write-8, write-read, after-bad, after-good, told-bad}
+use Rattle.writer.proofs.Written.{told-2, told-3, told-8, told-read, told-good}
 use Rattle.writer.specs.Records.{headOf, bodyCount}
 use borrow.Author.Needs.{needs}
-use mathlib.Core.Path.{refl, sym, _∙_, ap}
-use native.Mathlib.Omega.{arith}
+use mathlib.Core.Path.{refl}
 use Rattle.writer.proofs.writing.write_150.Statement.{statement}
 use Rattle.writer.proofs.writing.write_150.Tie as tie
 
@@ -20,8 +18,7 @@ unfolding bodyCount
 returns c =
     let a = c .before .before .before .before .before .before .before .before .before .before .args in
     let h = headOf (a .date .now) (a .code .now) (a .item6 .now) (a .item7 .now) in
-    told-bad EB21 h (a .bodies .now) (a .room .now) 3 _ (λ z. omega arith) (c .refused .ensures)
-    (write-3 EB21 h (a .bodies .now) (a .room .now) (sym (c .before .before .before .parts-fit .ensures) ∙ c .before .before .if1 .taken) (c .before .if2 .taken))
+    told-3 EB21 h (a .bodies .now) (a .room .now) _ _ (c .before .before .before .parts-fit .ensures) (c .before .before .if1 .taken) (c .before .if2 .taken) (c .refused .ensures)
 
 add-if3 : tie.Need-add-if3
 add-if3 c = search needs
@@ -37,8 +34,7 @@ unfolding bodyCount
 returns-2 c =
     let a = c .before .before .before .before .before .before .before .before .before .before .before .args in
     let h = headOf (a .date .now) (a .code .now) (a .item6 .now) (a .item7 .now) in
-    told-bad EB21 h (a .bodies .now) (a .room .now) 8 _ (λ z. omega arith) (c .refused2 .ensures)
-    (write-8 EB21 h (a .bodies .now) (a .room .now) (sym (c .before .before .before .before .parts-fit .ensures) ∙ c .before .before .before .if1 .taken) (c .before .before .if2 .left) (c .before .if3 .taken))
+    told-8 EB21 h (a .bodies .now) (a .room .now) _ _ (c .before .before .before .before .parts-fit .ensures) (c .before .before .before .if1 .taken) (c .before .before .if2 .left) (c .before .if3 .taken) (c .refused2 .ensures)
 
 judge-150-requires : tie.Need-judge-150-requires
 unfolding bodyCount
@@ -56,20 +52,16 @@ unfolding bodyCount
 returns-3 c =
     let a = c .before .before .before .before .before .before .before .before .before .before .before .before .before .before .before .before .before .args in
     let h = headOf (a .date .now) (a .code .now) (a .item6 .now) (a .item7 .now) in
-    let j = c .before .before .before .before .before .before .judge-150 in
-    let e = write-read EB21 h (a .bodies .now) (a .room .now) (sym (c .before .before .before .before .before .before .before .before .before .before .parts-fit .ensures) ∙ c .before .before .before .before .before .before .before .before .before .if1 .taken) (c .before .before .before .before .before .before .before .before .if2 .left) (c .before .before .before .before .before .before .before .if3 .left) in (
-      j .ensures ∙ sym e,
-      c .before .before .put-150 .ensures ∙ sym (after-good EB21 h (a .bodies .now) (a .room .now) (ap (λ (x : Answer). x .number) (e ∙ sym (j .ensures)) ∙ c .before .before .before .before .if4 .taken)),
-    )
+    told-good EB21 h (a .bodies .now) (a .room .now) _ _ (c .before .before .before .before .before .before .before .before .before .before .parts-fit .ensures) (c .before .before .before .before .before .before .before .before .before .if1 .taken) (c .before .before .before .before .before .before .before .before .if2 .left) (c .before .before .before .before .before .before .before .if3 .left)
+    (c .before .before .before .before .before .before .judge-150 .ensures) _ (c .before .before .before .before .if4 .taken) (c .before .before .put-150 .ensures)
 
 returns-4 : tie.Need-returns-4
 unfolding bodyCount
 returns-4 c =
     let a = c .before .before .before .before .before .before .before .before .before .before .before .before .before .args in
     let h = headOf (a .date .now) (a .code .now) (a .item6 .now) (a .item7 .now) in
-    let j = c .before .before .judge-150 in
-    let e = write-read EB21 h (a .bodies .now) (a .room .now) (sym (c .before .before .before .before .before .before .parts-fit .ensures) ∙ c .before .before .before .before .before .if1 .taken) (c .before .before .before .before .if2 .left) (c .before .before .before .if3 .left) in
-    (j .ensures ∙ sym e, sym (after-bad EB21 h (a .bodies .now) (a .room .now) (λ z. c .if4 .left (ap (λ (x : Answer). x .number) (j .ensures ∙ sym e) ∙ z))))
+    told-read EB21 h (a .bodies .now) (a .room .now) _ _ (c .before .before .before .before .before .before .parts-fit .ensures) (c .before .before .before .before .before .if1 .taken) (c .before .before .before .before .if2 .left) (c .before .before .before .if3 .left)
+    (c .before .before .judge-150 .ensures) (c .if4 .left)
 
 refused-requires-3 : tie.Need-refused-requires-3
 refused-requires-3 c κs = search needs
@@ -78,8 +70,7 @@ returns-5 : tie.Need-returns-5
 returns-5 c =
     let a = c .before .before .before .before .before .before .before .before .before .args in
     let h = headOf (a .date .now) (a .code .now) (a .item6 .now) (a .item7 .now) in
-    told-bad EB21 h (a .bodies .now) (a .room .now) 2 _ (λ z. omega arith) (c .refused3 .ensures)
-    (write-2 EB21 h (a .bodies .now) (a .room .now) (sym (c .before .before .parts-fit .ensures) ∙ c .before .if1 .left))
+    told-2 EB21 h (a .bodies .now) (a .room .now) _ _ (c .before .before .parts-fit .ensures) (c .before .if1 .left) (c .refused3 .ensures)
 
 pub write-150-spec : {M : Type 1} → statement M
 write-150-spec =

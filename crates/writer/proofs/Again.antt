@@ -1,0 +1,185 @@
+-- A record that holds is the one that is built from what is taken from it.
+-- Assumes nothing.
+use Prim.Native.Nat.{ℕ, _+_, _-_, _*_, _≤_, _<_}
+use mathlib.Core.Bool.{true, false}
+use mathlib.Core.List.{List, _++_}
+use mathlib.Core.Path.{_≡_, refl, sym, _∙_, ap}
+use mathlib.Core.Logic.{⊎-elim}
+use native.Mathlib.Omega.{arith}
+use borrow.Author.Tests.{leb-true, ltb-true, ltb-false}
+use lib.Dec.{leb, ltb}
+use lib.ListN.{length, getD, drop}
+use lib.Seq.{ext-getD}
+use Rattle.laws.specs.Part.{part}
+use Rattle.laws.proofs.Bools.{either}
+use Rattle.laws.specs.Least.{least, further}
+use Rattle.text.specs.Numbers.{says}
+use Rattle.laws.proofs.Every.{every}
+use Rattle.laws.proofs.Parts.{part-at, same-equal}
+use Rattle.tables.specs.declared.kinds.Kind.{Kind}
+use Rattle.tables.specs.declared.kinds.Kind.the-variants.{EB13, EB14, EB21, EB22}
+use Rattle.tables.specs.declared.kinds.Named.the-variants.{Is}
+use Rattle.tables.specs.declared.kinds.Role.the-variants.{Header, Data, Trailer}
+use Rattle.tables.specs.declared.rows.Row.{Row}
+use Rattle.tables.specs.Kinds.{fixedOf}
+use Rattle.tables.specs.Tables.{headerFront, enrolmentHeader, debitHeader, dataFront, enrolmentData, debitData, eb13Data, eb14Data, eb21Data, eb22Data, trailerFront, enrolmentTrailer, eb13Trailer, eb21Trailer, rowsOf}
+use Rattle.tables.specs.Totals.{noTotal, enrolmentTotals, eb21Totals, totalsOf}
+use Rattle.layout.specs.Items.{dateOf, nameDay}
+use Rattle.layout.specs.Rules.{meets, holds}
+use Rattle.layout.proofs.Judged.{All-hold}
+use Rattle.laws.specs.Tabulate.{tabulate}
+use Rattle.writer.specs.Records.{givenItem, headerFill, headerByte, headerBuilt, frontFill, dataByte, dataBuilt, totalIs, totalFor, trailerFill, trailerByte, trailerBuilt}
+use Rattle.writer.specs.Files.{requestOf}
+use Rattle.writer.specs.Apart.{headFrom}
+use Rattle.laws.proofs.Tabs.{tab-length, tab-at}
+use Rattle.writer.proofs.Sizes.{body-size}
+use Rattle.writer.proofs.Requests.{not-request}
+use Rattle.writer.proofs.Held.{part-place, Bytes, All, end, _also_, all-every, Back, back-at, given-back, only-back, same-back, says-back, total-back, word-back}
+
+-- a list is what is tabulated, if it has these bytes
+pub tab-is : (f : ℕ → ℕ) (n : ℕ) (s : List ℕ) → length s ≡ n → ((j : ℕ) → j < n → f j ≡ getD s j 0) → tabulate f n ≡ s
+tab-is f n s long same =
+    ext-getD 0 (tabulate f n) s (tab-length f n ∙ sym long)
+    (λ j h. let l : j < n = rw (tab-length f n) at h in tab-at f n j l ∙ same j l)
+
+-- the header
+module _ (k : Kind) (H : List ℕ) (bytes : Bytes H) (day : drop 2 (dateOf H) ≡ nameDay H) where
+  abbrev w : ℕ
+  w = fixedOf k .size
+
+  abbrev HeaderBack : Row → Type 0
+  HeaderBack = Back k H H 0 (headerFill k (headFrom k H)) w
+
+  header-front : (rest : List Row) → All HeaderBack rest → All HeaderBack (headerFront ++ rest)
+  unfolding headerFront headerFill holds meets givenItem
+  header-front rest a =
+      only-back H w 0 1 0x48 also
+      only-back H w 1 8 0x30 also
+      given-back H w 9 10 also
+      word-back H w (fixedOf k .name) 19 bytes also
+      (λ i t j l h b. ap (λ (x : List ℕ). getD x (j - 23) 0) day ∙ part-place H 23 4 j l h) also
+      given-back H w 27 6 also
+      given-back H w 27 6 also
+      given-back H w 27 6 also
+      a
+
+header-rows : (k : Kind) (H : List ℕ) → Bytes H → drop 2 (dateOf H) ≡ nameDay H → All (Back k H H 0 (headerFill k (headFrom k H)) (fixedOf k .size)) (rowsOf k Header)
+unfolding headerFront enrolmentHeader debitHeader headerFill holds meets givenItem
+header-rows EB13 H b d = header-front EB13 H b d _ (only-back H 120 33 87 0x20 also end)
+header-rows EB14 H b d = header-front EB14 H b d _ (only-back H 120 33 87 0x20 also end)
+header-rows EB21 H b d = header-front EB21 H b d _ (given-back H 150 33 7 also given-back H 150 40 16 also only-back H 150 56 94 0x20 also end)
+header-rows EB22 H b d = header-front EB22 H b d _ (given-back H 150 33 7 also given-back H 150 40 16 also only-back H 150 56 94 0x20 also end)
+
+-- the MMDD of the name is the date's
+name-day : (k : Kind) (H : List ℕ) → All-hold k (rowsOf k Header) H H 0 → drop 2 (dateOf H) ≡ nameDay H
+unfolding headerFront enrolmentHeader debitHeader holds meets
+name-day EB13 H hold = same-equal (drop 2 (dateOf H)) (nameDay H) (hold 7 (omega arith))
+name-day EB14 H hold = same-equal (drop 2 (dateOf H)) (nameDay H) (hold 7 (omega arith))
+name-day EB21 H hold = same-equal (drop 2 (dateOf H)) (nameDay H) (hold 7 (omega arith))
+name-day EB22 H hold = same-equal (drop 2 (dateOf H)) (nameDay H) (hold 7 (omega arith))
+
+pub header-again : (k : Kind) (H : List ℕ) → length H ≡ fixedOf k .size → Bytes H → All-hold k (rowsOf k Header) H H 0 → headerBuilt k (headFrom k H) ≡ H
+unfolding headerBuilt headerByte
+header-again k H long bytes hold =
+    tab-is (headerByte k (headFrom k H)) (fixedOf k .size) H long
+    (λ j h. back-at k H H 0 (headerFill k (headFrom k H)) (fixedOf k .size) Header long (header-rows k H bytes (name-day k H hold)) hold j h h)
+
+-- a data record: items 1 to 3 by their rows, then the body
+module _ (k : Kind) (rec H : List ℕ) (n : ℕ) where
+  abbrev fill : Row → ℕ → ℕ
+  fill r j = frontFill r H n j
+
+  abbrev DataBack : Row → Type 0
+  DataBack = Back k rec H n fill 19
+
+  behind : (r : Row) → leb 19 (r .1) ≡ true → DataBack r
+  behind r t i u j l h b = absurd (omega (arith, leb-true 19 (r .1) t))
+
+  data-front : (rest : List Row) → every (λ (r : Row). leb 19 (r .1)) rest ≡ true → All DataBack (dataFront ++ rest)
+  unfolding dataFront frontFill holds meets
+  data-front rest t =
+      only-back rec 19 0 1 0x52 also
+      says-back rec 19 n 1 8 also
+      same-back rec 19 H 9 10 also
+      all-every DataBack (λ (r : Row). leb 19 (r .1)) behind rest t
+
+data-rows : (k : Kind) (rec H : List ℕ) (n : ℕ) → All (Back k rec H n (λ r j. frontFill r H n j) 19) (rowsOf k Data)
+unfolding dataFront enrolmentData debitData eb13Data eb14Data eb21Data eb22Data
+data-rows EB13 rec H n = data-front EB13 rec H n _ refl
+data-rows EB14 rec H n = data-front EB14 rec H n _ refl
+data-rows EB21 rec H n = data-front EB21 rec H n _ refl
+data-rows EB22 rec H n = data-front EB22 rec H n _ refl
+
+pub data-again :
+    (k : Kind) (H bodies rec : List ℕ) (i : ℕ) → length rec ≡ fixedOf k .size → All-hold k (rowsOf k Data) rec H (i + 1) →
+    part (i * fixedOf k .body) (fixedOf k .body) bodies ≡ part 19 (fixedOf k .body) rec → dataBuilt k H bodies i ≡ rec
+unfolding dataBuilt dataByte
+data-again k H bodies rec i long hold body =
+    tab-is (dataByte k H bodies i) (fixedOf k .size) rec long (λ j h. ⊎-elim (front j h) (behind j h) (either (ltb j 19)))
+  where
+    front : (j : ℕ) → j < fixedOf k .size → ltb j 19 ≡ true → dataByte k H bodies i j ≡ getD rec j 0
+    front j h t =
+        rw t
+        (back-at k rec H (i + 1) (λ r x. frontFill r H (i + 1) x) 19 Data long (data-rows k rec H (i + 1)) hold j h (ltb-true j 19 t))
+
+    behind : (j : ℕ) → j < fixedOf k .size → ltb j 19 ≡ false → dataByte k H bodies i j ≡ getD rec j 0
+    behind j h f =
+        let l : 19 ≤ j = ltb-false j 19 f in
+        let size = body-size k in
+        rw f
+        (sym (part-at (i * fixedOf k .body) (fixedOf k .body) bodies (j - 19) (omega arith)) ∙
+        (ap (λ (x : List ℕ). getD x (j - 19) 0) body ∙ part-place rec 19 (fixedOf k .body) j l (omega arith)))
+
+-- the trailer of a request: each row is one byte, the header's, or a total
+module _ (k : Kind) (rec H : List ℕ) (n : ℕ) (totals : List ℕ) where
+  abbrev TrailerBack : Row → Type 0
+  TrailerBack = Back k rec H n (λ r j. trailerFill r H (totalFor k totals (r .0)) j) (fixedOf k .size)
+
+  trailer-front : says (part 27 8 rec) (totalFor k totals 5) ≡ true → (rest : List Row) → All TrailerBack rest → All TrailerBack (trailerFront ++ rest)
+  unfolding trailerFront trailerFill holds meets
+  trailer-front t rest a =
+      only-back rec (fixedOf k .size) 0 1 0x54 also
+      only-back rec (fixedOf k .size) 1 8 0x39 also
+      same-back rec (fixedOf k .size) H 9 10 also
+      same-back rec (fixedOf k .size) H 19 8 also
+      total-back rec (fixedOf k .size) (totalFor k totals 5) 27 8 t also
+      a
+
+-- each total of the trailer says its number
+abbrev pub Said : Kind → List ℕ → List ℕ → Type 0
+Said k rec totals =
+    (t : ℕ) → t < length (totalsOf k) → says (part (getD (totalsOf k) t noTotal .1) (getD (totalsOf k) t noTotal .2) rec) (getD totals t 0) ≡ true
+
+trailer-rows :
+    (k : Kind) → requestOf (fixedOf k .name) ≡ Is k → (rec H : List ℕ) (n : ℕ) (totals : List ℕ) → Said k rec totals →
+    All (Back k rec H n (λ r j. trailerFill r H (totalFor k totals (r .0)) j) (fixedOf k .size)) (rowsOf k Trailer)
+unfolding requestOf trailerFront enrolmentTrailer eb13Trailer eb21Trailer trailerFill holds meets enrolmentTotals eb21Totals totalFor totalIs least further
+trailer-rows EB13 e rec H n totals said =
+    trailer-front EB13 rec H n totals (said 0 (omega arith)) _
+    (total-back rec 120 (getD totals 1 0) 35 8 (said 1 (omega arith)) also
+    only-back rec 120 43 8 0x30 also
+    total-back rec 120 (getD totals 2 0) 51 8 (said 2 (omega arith)) also
+    total-back rec 120 (getD totals 3 0) 59 8 (said 3 (omega arith)) also
+    only-back rec 120 67 43 0x20 also
+    only-back rec 120 110 10 0x20 also
+    end)
+trailer-rows EB14 e rec H n totals said = absurd (not-request e)
+trailer-rows EB21 e rec H n totals said =
+    trailer-front EB21 rec H n totals (said 0 (omega arith)) _
+    (total-back rec 150 (getD totals 1 0) 35 8 (said 1 (omega arith)) also
+    total-back rec 150 (getD totals 2 0) 43 13 (said 2 (omega arith)) also
+    only-back rec 150 56 8 0x30 also
+    only-back rec 150 64 13 0x30 also
+    only-back rec 150 77 63 0x20 also
+    only-back rec 150 140 10 0x20 also
+    end)
+trailer-rows EB22 e rec H n totals said = absurd (not-request e)
+
+pub trailer-again :
+    (k : Kind) → requestOf (fixedOf k .name) ≡ Is k → (H rec totals : List ℕ) (n : ℕ) → length rec ≡ fixedOf k .size →
+    All-hold k (rowsOf k Trailer) rec H n → Said k rec totals → trailerBuilt k H totals ≡ rec
+unfolding trailerBuilt trailerByte
+trailer-again k e H rec totals n long hold said =
+    tab-is (trailerByte k H totals) (fixedOf k .size) rec long
+    (λ j h.
+    back-at k rec H n (λ r x. trailerFill r H (totalFor k totals (r .0)) x) (fixedOf k .size) Trailer long (trailer-rows k e rec H n totals said) hold j h h)

@@ -1,0 +1,28 @@
+-- What is given for a record lies inside it.
+-- Assumes nothing.
+use Prim.Native.Nat.{_+_, _≤_}
+use mathlib.Core.Path.{_≡_, refl}
+use native.Mathlib.Omega.{arith}
+use Rattle.tables.specs.declared.kinds.Kind.{Kind}
+use Rattle.tables.specs.declared.kinds.Kind.the-variants.{EB13, EB14, EB21, EB22}
+use Rattle.tables.specs.Kinds.{fixedOf}
+use Rattle.writer.specs.Files.{size6, size7}
+
+-- a record is items 1 to 3 and the body
+pub body-size : (k : Kind) → 19 + fixedOf k .body ≡ fixedOf k .size
+body-size EB13 = refl
+body-size EB14 = refl
+body-size EB21 = refl
+body-size EB22 = refl
+
+pub item6-inside : (k : Kind) → 33 + size6 k ≤ fixedOf k .size
+item6-inside EB13 = omega arith
+item6-inside EB14 = omega arith
+item6-inside EB21 = omega arith
+item6-inside EB22 = omega arith
+
+pub item7-inside : (k : Kind) → 40 + size7 k ≤ fixedOf k .size
+item7-inside EB13 = omega arith
+item7-inside EB14 = omega arith
+item7-inside EB21 = omega arith
+item7-inside EB22 = omega arith

@@ -1,0 +1,240 @@
+-- A written file taken apart is what it was written from.
+-- Assumes nothing.
+use Prim.Native.Nat.{ℕ, _+_, _-_, _*_, _%_, _≤_, _<_}
+use mathlib.Core.Bool.{Bool, true, _&&_}
+use mathlib.Core.List.{List, [], _∷_, _++_, append-assoc}
+use mathlib.Core.Path.{_≡_, refl, sym, _∙_, ap}
+use native.Mathlib.Nat.{le-of-eq, zero-mul, suc-mul, add-comm, mul-div-cancel, div-mul-le-self, div-add-mod', mul-mod-left}
+use native.Mathlib.Numerals.{add-one}
+use native.Mathlib.Omega.{arith}
+use borrow.Author.Tests.{eqb-true, eq-eqb, le-ltb}
+use lib.Dec.{eqb}
+use lib.ListN.{length, getD}
+use lib.Seq.{ext-getD, take-all, take-at}
+use Rattle.laws.specs.Joined.{joined}
+use Rattle.laws.specs.Least.{further, least, none}
+use Rattle.laws.specs.Part.{part}
+use Rattle.laws.proofs.Bools.{and-left, and-right}
+use Rattle.laws.proofs.Joins.{joined-length, joined-part, joined-same, parts-joined, size-below}
+use Rattle.laws.proofs.Parts.{part-length, part-at}
+use Rattle.tables.specs.declared.kinds.Kind.{Kind}
+use Rattle.tables.specs.declared.kinds.Kind.the-variants.{EB13, EB14, EB21, EB22}
+use Rattle.tables.specs.declared.kinds.Role.the-variants.{Header}
+use Rattle.tables.specs.declared.rows.Row.{Row}
+use Rattle.tables.specs.Kinds.{fixedOf}
+use Rattle.tables.specs.Rows.{blank}
+use Rattle.tables.specs.Tables.{headerFront, enrolmentHeader, debitHeader, rowsOf}
+use Rattle.reader.specs.Records.{recordAt, recordOf, countOf, dataOf}
+use Rattle.reader.proofs.Places.{size-pos}
+use Rattle.writer.specs.Bytes.{fillBy}
+use Rattle.writer.specs.Records.{Head, givenItem, headerFill, headerByte, headerBuilt, bodyCount, dataByte, dataBuilt, builtTotals, trailerBuilt}
+use Rattle.writer.specs.Files.{frontOf, fileOf, partsFit, size6, size7}
+use Rattle.writer.specs.Apart.{headFrom, headIn, bodyAt, bodiesIn}
+use Rattle.writer.proofs.Lengths.{header-length, data-length}
+use Rattle.laws.proofs.Tabs.{tab-at}
+use Rattle.writer.proofs.Stores.{part-front, part-behind}
+use Rattle.writer.proofs.Built.{file-length}
+use Rattle.writer.proofs.Sizes.{body-size}
+use Rattle.writer.proofs.Over.{starts, endsPast, starts-over}
+
+-- where a row of the header is given its item, the item stands there
+module _ (k : Kind) (h : Head) (i : ℕ) where
+  abbrev r : Row
+  r = getD (rowsOf k Header) i blank
+
+  abbrev Given : Type 0
+  Given = (given letter : ℕ) → fillBy (r .3) given letter 0 0 ≡ given
+
+  given-item : starts (rowsOf k Header) i ≡ true → Given → r .1 + r .2 ≤ fixedOf k .size → length (givenItem h (r .0)) ≡ r .2 → part (r .1) (r .2) (headerBuilt k h) ≡ givenItem h (r .0)
+  unfolding headerBuilt headerByte headerFill
+  given-item t fills inside long = ext-getD 0 (part (r .1) (r .2) (headerBuilt k h)) (givenItem h (r .0)) (size ∙ sym long) same
+    where
+      size : length (part (r .1) (r .2) (headerBuilt k h)) ≡ r .2
+      size = part-length (r .1) (r .2) (headerBuilt k h) (rw (header-length k h) inside)
+
+      same : (d : ℕ) → d < length (part (r .1) (r .2) (headerBuilt k h)) → getD (part (r .1) (r .2) (headerBuilt k h)) d 0 ≡ getD (givenItem h (r .0)) d 0
+      same d l =
+          let b : d < r .2 = omega (arith, size) in
+          rw (
+            part-at (r .1) (r .2) (headerBuilt k h) d b,
+            tab-at (headerByte k h) (fixedOf k .size) (r .1 + d) (omega arith),
+            starts-over (rowsOf k Header) i d t b,
+            fills (getD (givenItem h (r .0)) (r .1 + d - r .1) 0),
+          ) (ap (λ (x : ℕ). getD (givenItem h (r .0)) x 0) (omega arith))
+
+-- items 3 and 5 of every header, items 6 and 7 of a debit's
+code-built : (k : Kind) (h : Head) → length (h .code) ≡ 10 → part 9 10 (headerBuilt k h) ≡ h .code
+unfolding starts endsPast none least further givenItem headerFront enrolmentHeader debitHeader
+code-built EB13 h e = given-item EB13 h 2 refl (λ g l. refl) (omega arith) e
+code-built EB14 h e = given-item EB14 h 2 refl (λ g l. refl) (omega arith) e
+code-built EB21 h e = given-item EB21 h 2 refl (λ g l. refl) (omega arith) e
+code-built EB22 h e = given-item EB22 h 2 refl (λ g l. refl) (omega arith) e
+
+date-built : (k : Kind) (h : Head) → length (h .date) ≡ 6 → part 27 6 (headerBuilt k h) ≡ h .date
+unfolding starts endsPast none least further givenItem headerFront enrolmentHeader debitHeader
+date-built EB13 h e = given-item EB13 h 5 refl (λ g l. refl) (omega arith) e
+date-built EB14 h e = given-item EB14 h 5 refl (λ g l. refl) (omega arith) e
+date-built EB21 h e = given-item EB21 h 5 refl (λ g l. refl) (omega arith) e
+date-built EB22 h e = given-item EB22 h 5 refl (λ g l. refl) (omega arith) e
+
+nothing : (start : ℕ) (x s : List ℕ) → length x ≡ 0 → part start 0 s ≡ x
+unfolding part
+nothing start [] s e = refl
+nothing start (a ∷ x) s e = absurd (omega arith)
+
+item6-built : (k : Kind) (h : Head) → length (h .item6) ≡ size6 k → part 33 (size6 k) (headerBuilt k h) ≡ h .item6
+unfolding starts endsPast none least further givenItem headerFront enrolmentHeader debitHeader
+item6-built EB13 h e = nothing 33 (h .item6) (headerBuilt EB13 h) e
+item6-built EB14 h e = nothing 33 (h .item6) (headerBuilt EB14 h) e
+item6-built EB21 h e = given-item EB21 h 8 refl (λ g l. refl) (omega arith) e
+item6-built EB22 h e = given-item EB22 h 8 refl (λ g l. refl) (omega arith) e
+
+item7-built : (k : Kind) (h : Head) → length (h .item7) ≡ size7 k → part 40 (size7 k) (headerBuilt k h) ≡ h .item7
+unfolding starts endsPast none least further givenItem headerFront enrolmentHeader debitHeader
+item7-built EB13 h e = nothing 40 (h .item7) (headerBuilt EB13 h) e
+item7-built EB14 h e = nothing 40 (h .item7) (headerBuilt EB14 h) e
+item7-built EB21 h e = given-item EB21 h 9 refl (λ g l. refl) (omega arith) e
+item7-built EB22 h e = given-item EB22 h 9 refl (λ g l. refl) (omega arith) e
+
+-- the records of a written file are those that were built
+module _ (k : Kind) (h : Head) (bodies : List ℕ) where
+  abbrev w : ℕ
+  w = fixedOf k .size
+
+  abbrev n : ℕ
+  n = bodyCount k bodies
+
+  abbrev H : List ℕ
+  H = headerBuilt k h
+
+  abbrev D : List ℕ
+  D = joined (dataBuilt k H bodies) n
+
+  abbrev T : List ℕ
+  T = trailerBuilt k H (builtTotals k H bodies)
+
+  data-long : length D ≡ n * w
+  data-long = joined-length (dataBuilt k H bodies) w (data-length k H bodies) n
+
+  pub file-count : countOf k (fileOf k h bodies) ≡ n + 2
+  unfolding countOf
+  file-count = rw (file-length k h bodies) (mul-div-cancel (n + 2) (size-pos k))
+
+  pub file-header : recordOf k (fileOf k h bodies) 0 ≡ H
+  unfolding recordAt fileOf frontOf part
+  file-header = rw (zero-mul w, append-assoc H D T) (take-at H (D ++ T) w (header-length k h))
+
+  pub file-data : (i : ℕ) → i < n → recordOf k (fileOf k h bodies) (i + 1) ≡ dataBuilt k H bodies i
+  unfolding recordAt fileOf frontOf
+  file-data i l =
+      rw (append-assoc H D T, add-one, suc-mul, add-comm (i * w) w)
+      (part-behind (i * w) w w H (D ++ T) (header-length k h) ∙
+      (part-front (i * w) w D T (rw data-long (size-below i n w l)) ∙
+      joined-part (dataBuilt k H bodies) w (data-length k H bodies) n i l))
+
+-- the body of a built record is the one that was given
+body-built :
+    (k : Kind) (header bodies : List ℕ) (i : ℕ) → i < bodyCount k bodies →
+    part 19 (fixedOf k .body) (dataBuilt k header bodies i) ≡ part (i * fixedOf k .body) (fixedOf k .body) bodies
+unfolding bodyCount dataBuilt dataByte
+body-built k header bodies i l = ext-getD 0 (part 19 b rec) (part (i * b) b bodies) (long ∙ sym given) same
+  where
+    b : ℕ
+    b = fixedOf k .body
+
+    rec : List ℕ
+    rec = dataBuilt k header bodies i
+
+    long : length (part 19 b rec) ≡ b
+    long = part-length 19 b rec (rw (data-length k header bodies i) (le-of-eq (body-size k)))
+
+    given : length (part (i * b) b bodies) ≡ b
+    given = part-length (i * b) b bodies (omega (arith, size-below i (bodyCount k bodies) b l, div-mul-le-self (length bodies) b))
+
+    same : (d : ℕ) → d < length (part 19 b rec) → getD (part 19 b rec) d 0 ≡ getD (part (i * b) b bodies) d 0
+    same d m =
+        let s : d < b = omega (arith, long) in
+        rw (
+          part-at 19 b rec d s,
+          part-at (i * b) b bodies d s,
+          tab-at (dataByte k header bodies i) (fixedOf k .size) (19 + d) (omega (arith, body-size k)),
+          le-ltb (19 + d) 19 (omega arith),
+        ) (ap (λ (x : ℕ). getD bodies x 0) (omega arith))
+
+-- what is given fits: every part is as long as its item, and the bodies are whole
+abbrev pub fitting : Kind → Head → List ℕ → Bool
+fitting k h bodies = partsFit h bodies (size6 k) (size7 k) (fixedOf k .body)
+
+-- the same, one by one
+pub record Fits (k : Kind) (h : Head) (bodies : List ℕ) : Type 0 where
+  pub date : length (h .date) ≡ 6
+  pub code : length (h .code) ≡ 10
+  pub item6 : length (h .item6) ≡ size6 k
+  pub item7 : length (h .item7) ≡ size7 k
+  pub whole : length bodies ≡ bodyCount k bodies * fixedOf k .body
+
+pub fits-each : (k : Kind) (h : Head) (bodies : List ℕ) → fitting k h bodies ≡ true → Fits k h bodies
+unfolding partsFit bodyCount
+fits-each k h bodies t =
+    let a = eqb (length (h .date)) 6 in
+    let b = eqb (length (h .code)) 10 in
+    let c = eqb (length (h .item6)) (size6 k) in
+    let d = eqb (length (h .item7)) (size7 k) in
+    let e = eqb (length bodies % fixedOf k .body) 0 in
+    let t₁ = and-right a (b && (c && (d && e))) t in
+    let t₂ = and-right b (c && (d && e)) t₁ in
+    let t₃ = and-right c (d && e) t₂ in
+    record {
+      date = eqb-true _ 6 (and-left a _ t);
+      code = eqb-true _ 10 (and-left b _ t₁);
+      item6 = eqb-true _ (size6 k) (and-left c _ t₂);
+      item7 = eqb-true _ (size7 k) (and-left d e t₃);
+      whole = omega (arith, div-add-mod' (length bodies) (fixedOf k .body), eqb-true (length bodies % fixedOf k .body) 0 (and-right d e t₃));
+    }
+
+pub each-fits : (k : Kind) (h : Head) (bodies : List ℕ) → Fits k h bodies → fitting k h bodies ≡ true
+unfolding partsFit
+each-fits k h bodies f =
+    rw (
+      eq-eqb (length (h .date)) 6 (f .date),
+      eq-eqb (length (h .code)) 10 (f .code),
+      eq-eqb (length (h .item6)) (size6 k) (f .item6),
+      eq-eqb (length (h .item7)) (size7 k) (f .item7),
+      f .whole,
+      mul-mod-left (bodyCount k bodies) (fixedOf k .body),
+    )
+
+-- *Written, taken apart*: the header's items and the bodies are those that were given
+pub written-apart :
+    (k : Kind) (h : Head) (bodies : List ℕ) → fitting k h bodies ≡ true →
+    (headIn k (fileOf k h bodies) ≡ h) × (bodiesIn k (fileOf k h bodies) ≡ bodies)
+unfolding headIn bodiesIn bodyAt
+written-apart k h bodies t = (head, body)
+  where
+    f : Fits k h bodies
+    f = fits-each k h bodies t
+
+    head : headFrom k (recordOf k (fileOf k h bodies) 0) ≡ h
+    head =
+        rw (
+          file-header k h bodies,
+          date-built k h (f .date),
+          code-built k h (f .code),
+          item6-built k h (f .item6),
+          item7-built k h (f .item7),
+        )
+
+    b : ℕ
+    b = fixedOf k .body
+
+    n : ℕ
+    n = bodyCount k bodies
+
+    taken : (i : ℕ) → i < n → part 19 b (recordOf k (fileOf k h bodies) (i + 1)) ≡ part (i * b) b bodies
+    taken i l = rw (file-data k h bodies i l) (body-built k (headerBuilt k h) bodies i l)
+
+    body : joined (bodyAt k (fileOf k h bodies)) (dataOf k (fileOf k h bodies)) ≡ bodies
+    body =
+        ap (joined (bodyAt k (fileOf k h bodies))) (omega (arith, file-count k h bodies)) ∙
+        (joined-same (bodyAt k (fileOf k h bodies)) (λ i. part (i * b) b bodies) n taken ∙
+        (parts-joined b n bodies (le-of-eq (sym (f .whole))) ∙ take-all (n * b) bodies (le-of-eq (f .whole))))

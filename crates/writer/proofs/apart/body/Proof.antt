@@ -1,0 +1,28 @@
+-- What follows items 1 to 3 of the record.
+use borrow.Author.Needs.{needs}
+use native.Mathlib.Nat.{le-of-eq}
+use native.Mathlib.Omega.{arith}
+use Rattle.reader.proofs.Places.{count-small}
+use Rattle.writer.specs.Apart.{bodyAt}
+use Rattle.writer.proofs.Sizes.{body-size}
+use Rattle.writer.proofs.apart.body.Statement.{statement}
+use Rattle.writer.proofs.apart.body.Tie as tie
+
+add-part-of : tie.Need-add-part-of
+add-part-of c =
+    let a = c .before .args in
+    omega (arith, count-small (a .kind) (a .file .now), c .before .pre)
+
+of-requires : tie.Need-of-requires
+of-requires c κs = search needs
+
+part-of-requires : tie.Need-part-of-requires
+part-of-requires c κs =
+    (c .before .before .pre, rw (c .of .ensures) (le-of-eq (body-size (c .before .before .args .kind))))
+
+returns : tie.Need-returns
+unfolding bodyAt
+returns c = rw (c .before .of .ensures) at (c .part-of .ensures)
+
+pub body-spec : {M : Type 1} → statement M
+body-spec = tie.close (tie.spec add-part-of of-requires part-of-requires returns)

@@ -1,0 +1,16 @@
+-- Item 3 of the header.
+use native.Mathlib.Omega.{arith}
+use Rattle.tables.proofs.Tiling.{size-least}
+use Rattle.writer.specs.Apart.{headIn}
+use Rattle.writer.proofs.apart.code.Statement.{statement}
+use Rattle.writer.proofs.apart.code.Tie as tie
+
+part-of-requires : tie.Need-part-of-requires
+part-of-requires c κs = (c .before .pre, omega (arith, size-least (c .before .args .kind)))
+
+returns : tie.Need-returns
+unfolding headIn
+returns c = c .part-of .ensures
+
+pub code-spec : {M : Type 1} → statement M
+code-spec = tie.close (tie.spec part-of-requires returns)

@@ -1,0 +1,16 @@
+-- Item 5 of the header.
+use native.Mathlib.Omega.{arith}
+use Rattle.tables.proofs.Tiling.{size-least}
+use Rattle.writer.specs.Apart.{headIn}
+use Rattle.writer.proofs.apart.date.Statement.{statement}
+use Rattle.writer.proofs.apart.date.Tie as tie
+
+part-of-requires : tie.Need-part-of-requires
+part-of-requires c κs = (c .before .pre, omega (arith, size-least (c .before .args .kind)))
+
+returns : tie.Need-returns
+unfolding headIn
+returns c = c .part-of .ensures
+
+pub date-spec : {M : Type 1} → statement M
+date-spec = tie.close (tie.spec part-of-requires returns)
