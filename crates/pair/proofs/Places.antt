@@ -1,0 +1,58 @@
+-- The two kinds of a pair have records of one size, and what is compared lies inside them.
+-- Assumes nothing.
+use Prim.Native.Nat.{ℕ, _+_, _≤_, _<_}
+use mathlib.Core.Bool.{Bool, true}
+use mathlib.Core.Path.{_≡_, refl, sym}
+use native.Mathlib.Omega.{arith}
+use borrow.Author.Tests.{leb-true}
+use lib.Dec.{leb}
+use lib.ListN.{length, getD}
+use lib.Seq.{getD-take}
+use Rattle.laws.proofs.Every.{every, every-at}
+use Rattle.tables.specs.declared.copied.Copied.{Copied}
+use Rattle.tables.specs.Kinds.{fixedOf}
+use Rattle.tables.specs.Copied.{noItem, among, itemsBut, enrolmentCopied, debitCopied}
+use Rattle.tables.specs.Tables.{dataFront, enrolmentData, debitData, eb13Data, eb21Data}
+use Rattle.pair.specs.declared.kinds.PairKind.{PairKind}
+use Rattle.pair.specs.declared.kinds.PairKind.the-variants.{Enrolment, Debit}
+use Rattle.pair.specs.declared.items.Compared.{Compared}
+use Rattle.pair.specs.declared.items.Compared.the-variants.{Headers, Records}
+use Rattle.pair.specs.Kinds.{requestKind, resultKind, markStart, agreed}
+use Rattle.pair.specs.Items.{headerItems, comparedOf}
+
+pub same-size : (p : PairKind) → fixedOf (resultKind p) .size ≡ fixedOf (requestKind p) .size
+same-size Enrolment = refl
+same-size Debit = refl
+
+-- a result's mark and code lie inside its record
+pub mark-inside : (p : PairKind) → markStart p + 5 ≤ 120
+mark-inside Enrolment = omega arith
+mark-inside Debit = omega arith
+
+abbrev fits : PairKind → Copied → Bool
+fits p c = leb (c .1 + c .2) (fixedOf (requestKind p) .size)
+
+compared-fit : (p : PairKind) (c : Compared) → every (fits p) (comparedOf p c) ≡ true
+unfolding headerItems enrolmentCopied debitCopied itemsBut among eb13Data eb21Data enrolmentData debitData dataFront
+compared-fit Enrolment Headers = refl
+compared-fit Enrolment Records = refl
+compared-fit Debit Headers = refl
+compared-fit Debit Records = refl
+
+pub compared-inside :
+    (p : PairKind) (c : Compared) (i : ℕ) → i < length (comparedOf p c) →
+    getD (comparedOf p c) i noItem .1 + getD (comparedOf p c) i noItem .2 ≤ fixedOf (requestKind p) .size
+compared-inside p c i h = leb-true _ (fixedOf (requestKind p) .size) (every-at (fits p) (comparedOf p c) (compared-fit p c) i noItem h)
+
+-- the headers' items are the first of four
+pub headers-agreed : (p : PairKind) → length (comparedOf p Headers) ≡ agreed p
+unfolding headerItems
+headers-agreed Enrolment = refl
+headers-agreed Debit = refl
+
+pub agreed-most : (p : PairKind) → agreed p ≤ 4
+agreed-most Enrolment = omega arith
+agreed-most Debit = omega arith
+
+pub header-compared : (p : PairKind) (i : ℕ) → i < length (comparedOf p Headers) → getD headerItems i noItem ≡ getD (comparedOf p Headers) i noItem
+header-compared p i h = sym (getD-take (agreed p) headerItems i noItem (rw (headers-agreed p) at h))

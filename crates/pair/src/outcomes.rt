@@ -1,0 +1,89 @@
+// One request's outcome, with no lists lent.
+ghost use mathlib.Core.Path.{_≡_};
+ghost use Prim.Native.Nat.{_+_, _≤_, _<_};
+ghost use lib.ListN.{length};
+ghost use Rattle.reader.specs.Records.{countOf};
+ghost use Rattle.pair.specs.Kinds.{requestKind, resultKind};
+ghost use Rattle.pair.specs.Outcomes.{told, failedBy, outcomeAt, asksFor, outcomeAs, outcomeTold};
+use crate::amounts;
+use crate::cases::Outcome;
+use crate::cases::Told;
+use crate::kinds;
+use crate::kinds::PairKind;
+use crate::kinds::PairNamed;
+use crate::matching;
+use crate::pairing;
+use layout::answers::Answer;
+use reader::records;
+use text::numbers;
+use text::parts;
+
+// "P" is a part, else the whole was refused.
+fn failed_by(pair: PairKind, rec: &[u8], taken: u64, not_taken: u64) -> Outcome
+    requires { ⌜ 120 ≤ length (now rec) ⌝ }
+    ensures { λ r. ⌜ r ≡ failedBy pair (now (rec .entry)) taken «not_taken» ⌝ }
+{
+    let mark = kinds::mark_start(pair);
+    let code = numbers::word(parts::part(rec, mark + 1, 4));
+    if parts::byte(rec, mark) == b'P' {
+        return Outcome::Part(taken, not_taken, code);
+    }
+    Outcome::Refused(not_taken, code)
+}
+
+// The outcome of request i + 1.
+pub fn outcome_at(pair: PairKind, request: &[u8], result: &[u8], i: usize) -> Outcome
+    requires { ⌜ i + 1 < countOf (requestKind pair) (now request) ⌝ }
+    requires { ⌜ 2 ≤ countOf (resultKind pair) (now result) ⌝ }
+    ensures { λ r. ⌜ r ≡ outcomeAt pair (now (request .entry)) (now (result .entry)) i ⌝ }
+{
+    let j = matching::result_for(pair, request, result, i);
+    if j < records::count(kinds::result_kind(pair), result) - 2 {
+        return failed_by(
+            pair,
+            records::record_of(kinds::result_kind(pair), result, j + 1),
+            amounts::taken_at(pair, request, result, i),
+            amounts::not_taken_at(pair, request, result, i),
+        );
+    }
+    Outcome::Whole(amounts::asked_at(pair, request, i))
+}
+
+fn told(answer: Answer, outcome: Outcome) -> Told
+    ensures { λ r. ⌜ r ≡ told answer outcome ⌝ }
+{
+    Told { answer, outcome }
+}
+
+// The record is one of the requests 1 to n.
+fn asks_for(n: u64, rec: u64) -> bool
+    ensures { λ r. ⌜ r ≡ asksFor n rec ⌝ }
+{
+    1 <= rec && rec <= n
+}
+
+fn outcome_as(pair: PairKind, request: &[u8], result: &[u8], rec: u64) -> Told
+    ensures { λ r. ⌜ r ≡ outcomeAs pair (now (request .entry)) (now (result .entry)) rec ⌝ }
+{
+    let answer = pairing::pair_by(pair, request, result, true);
+    if answer.number != 0 {
+        return told(answer, Outcome::None);
+    }
+    let n = pairing::data_count(kinds::request_kind(pair), request);
+    if asks_for(n as u64, rec) {
+        let i = (rec - 1) as usize;
+        return told(Answer::accepted(), outcome_at(pair, request, result, i));
+    }
+    told(Answer::refused(15), Outcome::None)
+}
+
+// What became of one request, by its record number.
+pub fn outcome(kind: u64, request: &[u8], result: &[u8], rec: u64) -> Told
+    ensures { λ r. ⌜ r ≡ outcomeTold kind (now (request .entry)) (now (result .entry)) rec ⌝ }
+{
+    let named = kinds::pair_of(kind);
+    match named {
+        PairNamed::Is(known) => outcome_as(known, request, result, rec),
+        PairNamed::Unknown => told(Answer::refused(1), Outcome::None),
+    }
+}

@@ -1,0 +1,126 @@
+// A request with its result: 1; the request's reading, the result's; 12; 8; then the result records in order.
+ghost use mathlib.Core.Path.{_≡_};
+ghost use Prim.Native.Nat.{_≤_};
+ghost use lib.ListN.{length};
+ghost use Rattle.reader.specs.Records.{countOf, dataOf};
+ghost use Rattle.pair.specs.Kinds.{requestKind, resultKind};
+ghost use Rattle.pair.specs.Pairing.{onSide, headersTell, listsFit, pairBy, pairAs, listAfter, pairTold, takenAfter, notTakenAfter};
+ghost use Rattle.pair.specs.Amounts.{takenAt, notTakenAt};
+use crate::items;
+use crate::items::Compared;
+use crate::kinds;
+use crate::kinds::PairKind;
+use crate::kinds::PairNamed;
+use crate::lists;
+use crate::results;
+use layout::answers::Answer;
+use reader::reading;
+use reader::records;
+use tables::kinds::Kind;
+
+fn on_side(side: u64, answer: Answer) -> Answer
+    ensures { λ r. ⌜ r ≡ onSide side answer ⌝ }
+{
+    Answer {
+        side,
+        number: answer.number,
+        rec: answer.rec,
+        item: answer.item,
+        code: answer.code,
+    }
+}
+
+fn headers_tell(pair: PairKind, request: &[u8], result: &[u8]) -> Answer
+    requires { ⌜ 2 ≤ countOf (requestKind pair) (now request) ⌝ }
+    requires { ⌜ 2 ≤ countOf (resultKind pair) (now result) ⌝ }
+    ensures { λ r. ⌜ r ≡ headersTell pair (now (request .entry)) (now (result .entry)) ⌝ }
+{
+    items::items_tell(
+        12,
+        0,
+        pair,
+        Compared::Headers,
+        records::record_of(kinds::request_kind(pair), request, 0),
+        records::record_of(kinds::result_kind(pair), result, 0),
+    )
+}
+
+// Everything but the lists: `fits` says whether they are long enough.
+pub fn pair_by(pair: PairKind, request: &[u8], result: &[u8], fits: bool) -> Answer
+    ensures { λ r. ⌜ r ≡ pairBy pair (now (request .entry)) (now (result .entry)) fits ⌝ }
+{
+    let of_request = reading::read_as(kinds::request_kind(pair), request);
+    if of_request.number != 0 {
+        return on_side(1, of_request);
+    }
+    let of_result = reading::read_as(kinds::result_kind(pair), result);
+    if of_result.number != 0 {
+        return on_side(2, of_result);
+    }
+    let of_headers = headers_tell(pair, request, result);
+    if of_headers.number != 0 {
+        return of_headers;
+    }
+    if fits {
+        return results::results_tell(pair, request, result);
+    }
+    Answer::refused(8)
+}
+
+// How many data records a file of a kind has, none where it has not even two records.
+pub fn data_count(kind: Kind, file: &[u8]) -> usize
+    ensures { λ r. ⌜ r ≡ dataOf kind (now (file .entry)) ⌝ }
+{
+    let n = records::count(kind, file);
+    if n < 2 {
+        return 0;
+    }
+    n - 2
+}
+
+fn lists_fit(n: usize, taken: usize, not_taken: usize) -> bool
+    ensures { λ r. ⌜ r ≡ listsFit n taken «not_taken» ⌝ }
+{
+    n <= taken && n <= not_taken
+}
+
+// Decides first, then fills the lists.
+fn pair_as(
+    pair: PairKind,
+    request: &[u8],
+    result: &[u8],
+    taken: &mut [u64],
+    not_taken: &mut [u64],
+) -> Answer
+    ensures { λ r. ⌜ r ≡ pairAs pair (now (request .entry)) (now (result .entry)) (length (now (taken .entry))) (length (now («not_taken» .entry))) ⌝ }
+    ensures { λ _. ⌜ now (taken .exit) ≡ listAfter (pairAs pair (now (request .entry)) (now (result .entry)) (length (now (taken .entry))) (length (now («not_taken» .entry)))) (takenAt pair (now (request .entry)) (now (result .entry))) (dataOf (requestKind pair) (now (request .entry))) (now (taken .entry)) ⌝ }
+    ensures { λ _. ⌜ now («not_taken» .exit) ≡ listAfter (pairAs pair (now (request .entry)) (now (result .entry)) (length (now (taken .entry))) (length (now («not_taken» .entry)))) (notTakenAt pair (now (request .entry)) (now (result .entry))) (dataOf (requestKind pair) (now (request .entry))) (now («not_taken» .entry)) ⌝ }
+{
+    let n = data_count(kinds::request_kind(pair), request);
+    let fits = lists_fit(n, taken.len(), not_taken.len());
+    let answer = pair_by(pair, request, result, fits);
+    if answer.number == 0 {
+        lists::fill(pair, request, result, taken, not_taken);
+    }
+    answer
+}
+
+// Pairs any bytes as a request and its result, and says for each request how much was taken and how much was not.
+// `kind` is the request's kind's four letters as one number; a refusal leaves both lists as they were.
+pub fn pair(
+    kind: u64,
+    request: &[u8],
+    result: &[u8],
+    taken: &mut [u64],
+    not_taken: &mut [u64],
+) -> Answer
+    ensures { λ r. ⌜ r ≡ pairTold kind (now (request .entry)) (now (result .entry)) (length (now (taken .entry))) (length (now («not_taken» .entry))) ⌝ }
+    ensures { λ _. ⌜ now (taken .exit) ≡ takenAfter kind (now (request .entry)) (now (result .entry)) (length (now (taken .entry))) (length (now («not_taken» .entry))) (now (taken .entry)) ⌝ }
+    ensures { λ _. ⌜ now («not_taken» .exit) ≡ notTakenAfter kind (now (request .entry)) (now (result .entry)) (length (now (taken .entry))) (length (now («not_taken» .entry))) (now («not_taken» .entry)) ⌝ }
+{
+    let named = kinds::pair_of(kind);
+    match named {
+        PairNamed::Is(known) => pair_as(known, request, result, taken, not_taken),
+        PairNamed::Unknown => Answer::refused(1),
+    }
+}
