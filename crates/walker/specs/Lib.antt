@@ -1,0 +1,3 @@
+-- Record after record of one file.
+pub mod Walks
+pub mod Walkers
