@@ -1,7 +1,19 @@
--- An answer as five numbers: side, number, record, item, code.
+-- Answers as numbers: side, number, record, item, code; then what an outcome or a step says.
 use Prim.Native.Nat.{ℕ}
-use mathlib.Core.List.{List, [], _∷_}
+use mathlib.Core.List.{List, [], _∷_, _++_}
 use Rattle.layout.specs.declared.answers.Answer.{Answer}
+use Rattle.pair.specs.declared.cases.Told.{Told}
+use Rattle.pair.specs.Outcomes.{fourOf}
+use Rattle.walker.specs.declared.walking.Walked.{Walked}
+use Rattle.walker.specs.Walks.{threeOf}
 
 abbrev pub five : Answer → List ℕ
 five a = a .side ∷ a .number ∷ a .rec ∷ a .item ∷ a .code ∷ []
+
+-- an outcome's case, taken, not taken and code follow
+abbrev pub nine : Told → List ℕ
+nine t = five (t .answer) ++ fourOf (t .outcome)
+
+-- a step's case, first byte and length follow
+abbrev pub eight : Walked → List ℕ
+eight w = five (w .answer) ++ threeOf (w .step)

@@ -1,7 +1,16 @@
-// An answer as the five numbers that are lent.
+// An answer as the numbers that are lent.
 ghost use mathlib.Core.Path.{_≡_};
-ghost use Rattle.cms.specs.Face.{five};
+ghost use Rattle.pair.specs.Outcomes.{fourOf};
+ghost use Rattle.walker.specs.Walks.{threeOf};
+ghost use Rattle.cms.specs.Face.{five, nine, eight};
 use layout::answers::Answer;
+use pair::cases::Outcome;
+use pair::cases::Told;
+use walker::walking::Step;
+use walker::walking::Walked;
+
+// Four spaces: no code.
+const BLANK: u64 = 0x2020_2020;
 
 // Stores side, number, record, item and code, and returns the number.
 pub(crate) fn tell(told: Answer, answer: &mut [u64; 5]) -> u64
@@ -10,4 +19,68 @@ pub(crate) fn tell(told: Answer, answer: &mut [u64; 5]) -> u64
 {
     *answer = [told.side, told.number, told.rec, told.item, told.code];
     told.number
+}
+
+fn four(outcome: Outcome) -> [u64; 4]
+    ensures { λ r. ⌜ r ≡ fourOf outcome ⌝ }
+{
+    match outcome {
+        Outcome::None => [0, 0, 0, BLANK],
+        Outcome::Whole(taken) => [1, taken, 0, BLANK],
+        Outcome::Part(taken, not_taken, code) => [2, taken, not_taken, code],
+        Outcome::Refused(not_taken, code) => [3, 0, not_taken, code],
+    }
+}
+
+// The same with what an outcome says.
+pub(crate) fn tell_outcome(told: Told, answer: &mut [u64; 9]) -> u64
+    ensures { λ r. ⌜ r ≡ told .answer .number ⌝ }
+    ensures { λ _. ⌜ now (answer .exit) ≡ nine told ⌝ }
+{
+    let said = told.answer;
+    let outcome = told.outcome;
+    let four = four(outcome);
+    *answer = [
+        said.side,
+        said.number,
+        said.rec,
+        said.item,
+        said.code,
+        four[0],
+        four[1],
+        four[2],
+        four[3],
+    ];
+    said.number
+}
+
+fn three(step: Step) -> [u64; 3]
+    ensures { λ r. ⌜ r ≡ threeOf step ⌝ }
+{
+    match step {
+        Step::None => [0, 0, 0],
+        Step::Record(_, start, length) => [1, start, length],
+        Step::End => [2, 0, 0],
+    }
+}
+
+// The same with what a step hands out.
+pub(crate) fn tell_step(walked: Walked, answer: &mut [u64; 8]) -> u64
+    ensures { λ r. ⌜ r ≡ walked .answer .number ⌝ }
+    ensures { λ _. ⌜ now (answer .exit) ≡ eight walked ⌝ }
+{
+    let said = walked.answer;
+    let step = walked.step;
+    let three = three(step);
+    *answer = [
+        said.side,
+        said.number,
+        said.rec,
+        said.item,
+        said.code,
+        three[0],
+        three[1],
+        three[2],
+    ];
+    said.number
 }

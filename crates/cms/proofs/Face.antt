@@ -1,0 +1,23 @@
+-- The numbers of an outcome and of a step, one by one.
+-- Assumes nothing.
+use Prim.Native.Nat.{ℕ}
+use mathlib.Core.List.{List, [], _∷_}
+use mathlib.Core.Path.{_≡_, refl}
+use lib.ListN.{getD}
+use Rattle.pair.specs.declared.cases.Outcome.{Outcome}
+use Rattle.pair.specs.declared.cases.Outcome.the-variants as outcome
+use Rattle.pair.specs.Outcomes.{fourOf}
+use Rattle.walker.specs.declared.walking.Step.{Step}
+use Rattle.walker.specs.declared.walking.Step.the-variants as step
+use Rattle.walker.specs.Walks.{threeOf}
+
+pub four-of : (o : Outcome) → getD (fourOf o) 0 0 ∷ getD (fourOf o) 1 0 ∷ getD (fourOf o) 2 0 ∷ getD (fourOf o) 3 0 ∷ [] ≡ fourOf o
+four-of outcome.None = refl
+four-of (outcome.Whole taken) = refl
+four-of (outcome.Part taken notTaken code) = refl
+four-of (outcome.Refused notTaken code) = refl
+
+pub three-of : (s : Step) → getD (threeOf s) 0 0 ∷ getD (threeOf s) 1 0 ∷ getD (threeOf s) 2 0 ∷ [] ≡ threeOf s
+three-of step.None = refl
+three-of (step.Record number start size) = refl
+three-of step.End = refl
