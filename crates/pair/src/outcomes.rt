@@ -69,7 +69,7 @@ fn outcome_as(pair: PairKind, request: &[u8], result: &[u8], rec: u64) -> Told
     if answer.number != 0 {
         return told(answer, Outcome::None);
     }
-    let n = pairing::data_count(kinds::request_kind(pair), request);
+    let n = records::data_count(kinds::request_kind(pair), request);
     if asks_for(n as u64, rec) {
         let i = (rec - 1) as usize;
         return told(Answer::accepted(), outcome_at(pair, request, result, i));

@@ -16,7 +16,6 @@ use crate::results;
 use layout::answers::Answer;
 use reader::reading;
 use reader::records;
-use tables::kinds::Kind;
 
 fn on_side(side: u64, answer: Answer) -> Answer
     ensures { λ r. ⌜ r ≡ onSide side answer ⌝ }
@@ -67,17 +66,6 @@ pub fn pair_by(pair: PairKind, request: &[u8], result: &[u8], fits: bool) -> Ans
     Answer::refused(8)
 }
 
-// How many data records a file of a kind has, none where it has not even two records.
-pub fn data_count(kind: Kind, file: &[u8]) -> usize
-    ensures { λ r. ⌜ r ≡ dataOf kind (now (file .entry)) ⌝ }
-{
-    let n = records::count(kind, file);
-    if n < 2 {
-        return 0;
-    }
-    n - 2
-}
-
 fn lists_fit(n: usize, taken: usize, not_taken: usize) -> bool
     ensures { λ r. ⌜ r ≡ listsFit n taken «not_taken» ⌝ }
 {
@@ -96,7 +84,7 @@ fn pair_as(
     ensures { λ _. ⌜ now (taken .exit) ≡ listAfter (pairAs pair (now (request .entry)) (now (result .entry)) (length (now (taken .entry))) (length (now («not_taken» .entry)))) (takenAt pair (now (request .entry)) (now (result .entry))) (dataOf (requestKind pair) (now (request .entry))) (now (taken .entry)) ⌝ }
     ensures { λ _. ⌜ now («not_taken» .exit) ≡ listAfter (pairAs pair (now (request .entry)) (now (result .entry)) (length (now (taken .entry))) (length (now («not_taken» .entry)))) (notTakenAt pair (now (request .entry)) (now (result .entry))) (dataOf (requestKind pair) (now (request .entry))) (now («not_taken» .entry)) ⌝ }
 {
-    let n = data_count(kinds::request_kind(pair), request);
+    let n = records::data_count(kinds::request_kind(pair), request);
     let fits = lists_fit(n, taken.len(), not_taken.len());
     let answer = pair_by(pair, request, result, fits);
     if answer.number == 0 {

@@ -3,7 +3,7 @@ ghost use mathlib.Core.Path.{_≡_};
 ghost use Prim.Native.Nat.{_+_, _*_, _<_};
 ghost use lib.ListN.{length};
 ghost use Rattle.tables.specs.Kinds.{fixedOf};
-ghost use Rattle.reader.specs.Records.{recordOf, countOf, roleOf, judgedAt, recordsTell};
+ghost use Rattle.reader.specs.Records.{recordOf, countOf, dataOf, roleOf, judgedAt, recordsTell};
 use layout::answers::Answer;
 use layout::judging;
 use tables::kinds::Fixed;
@@ -16,6 +16,17 @@ pub fn count(kind: Kind, file: &[u8]) -> usize
     ensures { λ r. ⌜ r ≡ countOf kind (now (file .entry)) ⌝ }
 {
     file.len() / Fixed::of(kind).size
+}
+
+// How many data records it has: all but the header and the trailer.
+pub fn data_count(kind: Kind, file: &[u8]) -> usize
+    ensures { λ r. ⌜ r ≡ dataOf kind (now (file .entry)) ⌝ }
+{
+    let records = count(kind, file);
+    if records < 2 {
+        return 0;
+    }
+    records - 2
 }
 
 // Record i of a file of a kind; 0 is the header.

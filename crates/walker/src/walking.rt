@@ -1,6 +1,5 @@
 // The walk on a plain slice and a place: record k + 1, or the end when k is n or more.
 ghost use mathlib.Core.Path.{_≡_};
-ghost use Rattle.reader.specs.Records.{dataOf};
 ghost use Rattle.walker.specs.Walks.{stepOf, handOf, walkOf, placeAfter};
 use layout::answers::Answer;
 use reader::reading;
@@ -9,9 +8,6 @@ use tables::kinds;
 use tables::kinds::Fixed;
 use tables::kinds::Kind;
 use tables::kinds::Named;
-
-// The records that are not data: the header and the trailer.
-const NOT_DATA: usize = 2;
 
 // What is handed out at a place.
 pub enum Step {
@@ -28,22 +24,11 @@ pub struct Walked {
     pub step: Step,
 }
 
-// How many data records the file has.
-fn data_count(kind: Kind, file: &[u8]) -> usize
-    ensures { λ r. ⌜ r ≡ dataOf kind (now (file .entry)) ⌝ }
-{
-    let count = records::count(kind, file);
-    if count < NOT_DATA {
-        return 0;
-    }
-    count - NOT_DATA
-}
-
 // Record k + 1, or the end when k is n or more: no k + 1 is formed there.
 pub fn step_at(kind: Kind, file: &[u8], place: u64) -> Step
     ensures { λ r. ⌜ r ≡ stepOf kind (now (file .entry)) place ⌝ }
 {
-    if place < data_count(kind, file) as u64 {
+    if place < records::data_count(kind, file) as u64 {
         let size = Fixed::of(kind).size as u64;
         let number = place + 1;
         return Step::Record(number, number * size, size);

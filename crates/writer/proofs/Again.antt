@@ -32,9 +32,10 @@ use Rattle.writer.specs.Records.{givenItem, headerFill, headerByte, head
 use Rattle.writer.specs.Files.{requestOf}
 use Rattle.writer.specs.Apart.{headFrom}
 use Rattle.laws.proofs.Tabs.{tab-length, tab-at}
+use Rattle.writer.specs.Says.{Bytes}
 use Rattle.writer.proofs.Sizes.{body-size}
 use Rattle.writer.proofs.Requests.{not-request}
-use Rattle.writer.proofs.Held.{part-place, Bytes, All, end, _also_, all-every, Back, back-at, given-back, only-back, same-back, says-back, total-back, word-back}
+use Rattle.writer.proofs.Held.{part-place, All, end, _also_, all-every, Back, back-at, given-back, only-back, same-back, says-back, total-back, word-back}
 
 -- a list is what is tabulated, if it has these bytes
 pub tab-is : (f : ℕ → ℕ) (n : ℕ) (s : List ℕ) → length s ≡ n → ((j : ℕ) → j < n → f j ≡ getD s j 0) → tabulate f n ≡ s

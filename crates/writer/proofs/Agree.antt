@@ -24,12 +24,9 @@ use Rattle.reader.proofs.Exact.{first-refusal}
 use Rattle.reader.proofs.Lengths.{good-length, length-short}
 use Rattle.writer.specs.Records.{Head, bodyCount}
 use Rattle.writer.specs.Files.{fileOf, writeAs}
+use Rattle.writer.specs.Says.{fitting, writersOwn, Tells}
 use Rattle.writer.proofs.Built.{file-length}
-use Rattle.writer.proofs.Taken.{fitting, file-count}
-
--- the numbers that only the writer says of a file to be written
-unfoldable pub writersOwn : ℕ → Bool
-writersOwn n = eqb n 1 || (eqb n 2 || (eqb n 3 || eqb n 8))
+use Rattle.writer.proofs.Taken.{file-count}
 
 -- a file to be written has a length that the reader takes
 pub file-lengths : (k : Kind) (h : Head) (bodies : List ℕ) → bodyCount k bodies ≤ limit → Lengths k (fileOf k h bodies)
@@ -57,18 +54,6 @@ says-own k s a l (Says.long t m) = absurd (omega (arith, l .most))
 says-own k s a l (Says.row i j m b c f g h) = broken-own i (getD (rowsAt k s i) j blank)
 says-own k s a l (Says.total j m h b f g) = refl
 says-own k s a l (Says.key i m h t b r g) = refl
-
--- what the writer says of what it is given
-pub data Tells (k : Kind) (h : Head) (bodies : List ℕ) (room : ℕ) : Answer → Type 0 where
-  -- 2: a part is not as long as its item, or the bodies are not whole
-  unfit : fitting k h bodies ≡ false → Tells k h bodies room (refused 2)
-  -- 3: too many bodies
-  many : fitting k h bodies ≡ true → limit < bodyCount k bodies → Tells k h bodies room (refused 3)
-  -- 8: the room is less than the file
-  short : fitting k h bodies ≡ true → bodyCount k bodies ≤ limit → room < length (fileOf k h bodies) → Tells k h bodies room (refused 8)
-  -- else what the reader says of the file, which is none of these
-  read : fitting k h bodies ≡ true → bodyCount k bodies ≤ limit → length (fileOf k h bodies) ≤ room →
-      writersOwn (readAs k (fileOf k h bodies) .number) ≡ false → Tells k h bodies room (readAs k (fileOf k h bodies))
 
 module _ (k : Kind) (h : Head) (bodies : List ℕ) (room : ℕ) where
   -- *Every answer of the writer, by its case*

@@ -29,6 +29,7 @@ use Rattle.layout.specs.Rules.{holds}
 use Rattle.layout.proofs.Judged.{All-hold}
 use Rattle.writer.specs.Bytes.{rowOver}
 use Rattle.text.specs.Numbers.{letterOf}
+use Rattle.writer.specs.Says.{Bytes}
 use Rattle.writer.proofs.Over.{row-over}
 
 -- a place of a part
@@ -56,9 +57,6 @@ pub says-place : (s : List ℕ) (a m n : ℕ) → a + m ≤ length s → says (p
 says-place s a m n inside t j l h = rw (says-digits (part a m s) n m (part-length a m s inside) t) (part-place s a m j l h)
 
 -- the letters of a name
-abbrev pub Bytes : List ℕ → Type 0
-Bytes s = (i : ℕ) → i < length s → getD s i 0 < 256
-
 word-letter : (s : List ℕ) → ((i : ℕ) → i < 4 → getD s i 0 < 256) → (i : ℕ) → i < 4 → letterOf (wordOf s) i ≡ getD s i 0
 unfolding wordOf letterOf
 word-letter s b = letter (b 0 (omega arith)) (b 1 (omega arith)) (b 2 (omega arith)) (b 3 (omega arith))

@@ -35,12 +35,12 @@ use Rattle.reader.proofs.Accepted.{read-named}
 use Rattle.writer.specs.Records.{headerBuilt, bodyCount, dataBuilt, builtWorth, builtQuantity, builtTotal, builtTotals, trailerBuilt}
 use Rattle.writer.specs.Files.{frontOf, fileOf, requestOf, writeAs, afterAs, writeOf, roomAfter}
 use Rattle.writer.specs.Apart.{headIn, bodyAt, bodiesIn}
+use Rattle.writer.specs.Says.{Bytes}
 use Rattle.writer.proofs.Rows.{totals-few}
 use Rattle.laws.proofs.Tabs.{tab-at}
 use Rattle.writer.proofs.Sizes.{body-size, item6-inside, item7-inside}
 use Rattle.writer.proofs.Taken.{Fits, each-fits}
 use Rattle.writer.proofs.Requests.{request-kind, request-name}
-use Rattle.writer.proofs.Held.{Bytes}
 use Rattle.writer.proofs.Again.{Said, header-again, data-again, trailer-again}
 
 body-some : (k : Kind) → 0 < fixedOf k .body

@@ -30,6 +30,7 @@ use Rattle.writer.specs.Bytes.{fillBy}
 use Rattle.writer.specs.Records.{Head, givenItem, headerFill, headerByte, headerBuilt, bodyCount, dataByte, dataBuilt, builtTotals, trailerBuilt}
 use Rattle.writer.specs.Files.{frontOf, fileOf, partsFit, size6, size7}
 use Rattle.writer.specs.Apart.{headFrom, headIn, bodyAt, bodiesIn}
+use Rattle.writer.specs.Says.{fitting}
 use Rattle.writer.proofs.Lengths.{header-length, data-length}
 use Rattle.laws.proofs.Tabs.{tab-at}
 use Rattle.writer.proofs.Stores.{part-front, part-behind}
@@ -160,10 +161,6 @@ body-built k header bodies i l = ext-getD 0 (part 19 b rec) (part (i * b) b bodi
           tab-at (dataByte k header bodies i) (fixedOf k .size) (19 + d) (omega (arith, body-size k)),
           le-ltb (19 + d) 19 (omega arith),
         ) (ap (λ (x : ℕ). getD bodies x 0) (omega arith))
-
--- what is given fits: every part is as long as its item, and the bodies are whole
-abbrev pub fitting : Kind → Head → List ℕ → Bool
-fitting k h bodies = partsFit h bodies (size6 k) (size7 k) (fixedOf k .body)
 
 -- the same, one by one
 pub record Fits (k : Kind) (h : Head) (bodies : List ℕ) : Type 0 where

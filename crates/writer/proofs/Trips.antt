@@ -19,9 +19,10 @@ use Rattle.reader.proofs.Accepted.{read-named}
 use Rattle.writer.specs.Records.{Head}
 use Rattle.writer.specs.Files.{fileOf, requestOf, writeAs, afterAs, writeNamed, writeOf, afterNamed, roomAfter}
 use Rattle.writer.specs.Apart.{headIn, bodiesIn}
+use Rattle.writer.specs.Says.{fitting, writersOwn, Tells, Wrote, Agrees}
 use Rattle.writer.proofs.Requests.{request-kind}
-use Rattle.writer.proofs.Taken.{fitting, written-apart}
-use Rattle.writer.proofs.Agree.{writersOwn, Tells, writer-tells, answers-agree}
+use Rattle.writer.proofs.Taken.{written-apart}
+use Rattle.writer.proofs.Agree.{writer-tells, answers-agree}
 
 -- what is accepted fits, and the file is accepted by the reader
 module _ (k : Kind) (h : Head) (bodies : List ℕ) (room : ℕ) where
@@ -33,18 +34,6 @@ module _ (k : Kind) (h : Head) (bodies : List ℕ) (room : ℕ) where
 
   pub write-good : writeAs k h bodies room .number ≡ 0 → (fitting k h bodies ≡ true) × (readAs k (fileOf k h bodies) ≡ accepted)
   write-good = told-good (writeAs k h bodies room) (writer-tells k h bodies room)
-
--- a file that was written under a number into a room
-pub record Wrote (kind : ℕ) (h : Head) (bodies room : List ℕ) : Type 0 where
-  pub k : Kind
-  pub named : requestOf kind ≡ Is k
-  -- the room holds the file, and past it what it held
-  pub stands : roomAfter kind h bodies room ≡ fileOf k h bodies ++ drop (length (fileOf k h bodies)) room
-  -- it is read as accepted under the same number
-  pub reads : readOf kind (fileOf k h bodies) ≡ accepted
-  -- and is taken apart into what was given
-  pub head-back : headIn k (fileOf k h bodies) ≡ h
-  pub bodies-back : bodiesIn k (fileOf k h bodies) ≡ bodies
 
 wrote-named :
     (kind : ℕ) (h : Head) (bodies room : List ℕ) (n : Named) → requestOf kind ≡ n →
@@ -77,12 +66,6 @@ no-two k h h' bodies bodies' room room' a b e =
     let p = written-apart k h bodies (write-good k h bodies room a .0) in
     let q = written-apart k h' bodies' (write-good k h' bodies' room' b .0) in
     (sym (p .0) ∙ (ap (headIn k) e ∙ q .0), sym (p .1) ∙ (ap (bodiesIn k) e ∙ q .1))
-
--- a kind that is asked for by its number, and the reader's answer on the file to be written
-pub record Agrees (kind : ℕ) (h : Head) (bodies : List ℕ) (a : Answer) : Type 0 where
-  pub k : Kind
-  pub named : requestOf kind ≡ Is k
-  pub says : a ≡ readOf kind (fileOf k h bodies)
 
 agree-named :
     (kind : ℕ) (h : Head) (bodies : List ℕ) (room : ℕ) (n : Named) → requestOf kind ≡ n →

@@ -3,3 +3,4 @@ pub mod Bytes
 pub mod Records
 pub mod Files
 pub mod Apart
+pub mod Says

@@ -1,7 +1,7 @@
 -- All records but the header and the trailer.
 use borrow.Author.Needs.{needs}
-use Rattle.walker.proofs.walking.data_count.Statement.{statement}
-use Rattle.walker.proofs.walking.data_count.Tie as tie
+use Rattle.reader.proofs.records.data_count.Statement.{statement}
+use Rattle.reader.proofs.records.data_count.Tie as tie
 
 count-requires : tie.Need-count-requires
 count-requires c κs = search needs
