@@ -1,5 +1,4 @@
 // A request file made: one record at a time, decided before the first byte is stored.
-pub mod apart;
 mod bytes;
 mod files;
 mod records;

@@ -1,9 +1,9 @@
 -- Item 6 of the header, as long as the kind has it.
 use borrow.Author.Needs.{needs}
 use Rattle.writer.specs.Apart.{headIn}
 use Rattle.writer.proofs.Sizes.{item6-inside}
-use Rattle.writer.proofs.apart.item6.Statement.{statement}
-use Rattle.writer.proofs.apart.item6.Tie as tie
+use Rattle.apart.proofs.taking.item6.Statement.{statement}
+use Rattle.apart.proofs.taking.item6.Tie as tie
 
 size-6-requires : tie.Need-size-6-requires
 size-6-requires c κs = search needs

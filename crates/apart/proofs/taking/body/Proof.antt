@@ -1,12 +1,11 @@
 -- What follows items 1 to 3 of the record.
 use borrow.Author.Needs.{needs}
-use native.Mathlib.Nat.{le-of-eq}
 use native.Mathlib.Omega.{arith}
 use Rattle.reader.proofs.Places.{count-small}
 use Rattle.writer.specs.Apart.{bodyAt}
 use Rattle.writer.proofs.Sizes.{body-size}
-use Rattle.writer.proofs.apart.body.Statement.{statement}
-use Rattle.writer.proofs.apart.body.Tie as tie
+use Rattle.apart.proofs.taking.body.Statement.{statement}
+use Rattle.apart.proofs.taking.body.Tie as tie
 
 add-part-of : tie.Need-add-part-of
 add-part-of c =
@@ -18,7 +17,7 @@ of-requires c κs = search needs
 
 part-of-requires : tie.Need-part-of-requires
 part-of-requires c κs =
-    (c .before .before .pre, rw (c .of .ensures) (le-of-eq (body-size (c .before .before .args .kind))))
+    (c .before .before .pre, rw (c .of .ensures) (omega (arith, body-size (c .before .before .args .kind))))
 
 returns : tie.Need-returns
 unfolding bodyAt

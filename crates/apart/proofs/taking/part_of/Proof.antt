@@ -2,8 +2,8 @@
 use mathlib.Core.Path.{_∙_, ap}
 use borrow.Author.Needs.{needs}
 use Rattle.laws.specs.Part.{part}
-use Rattle.writer.proofs.apart.part_of.Statement.{statement}
-use Rattle.writer.proofs.apart.part_of.Tie as tie
+use Rattle.apart.proofs.taking.part_of.Statement.{statement}
+use Rattle.apart.proofs.taking.part_of.Tie as tie
 
 record-of-requires : tie.Need-record-of-requires
 record-of-requires c κs = search needs

@@ -1,9 +1,9 @@
 -- Item 5 of the header.
 use native.Mathlib.Omega.{arith}
 use Rattle.tables.proofs.Tiling.{size-least}
 use Rattle.writer.specs.Apart.{headIn}
-use Rattle.writer.proofs.apart.date.Statement.{statement}
-use Rattle.writer.proofs.apart.date.Tie as tie
+use Rattle.apart.proofs.taking.date.Statement.{statement}
+use Rattle.apart.proofs.taking.date.Tie as tie
 
 part-of-requires : tie.Need-part-of-requires
 part-of-requires c κs = (c .before .pre, omega (arith, size-least (c .before .args .kind)))

@@ -1,9 +1,9 @@
 -- Item 7 of the header, as long as the kind has it.
 use borrow.Author.Needs.{needs}
 use Rattle.writer.specs.Apart.{headIn}
 use Rattle.writer.proofs.Sizes.{item7-inside}
-use Rattle.writer.proofs.apart.item7.Statement.{statement}
-use Rattle.writer.proofs.apart.item7.Tie as tie
+use Rattle.apart.proofs.taking.item7.Statement.{statement}
+use Rattle.apart.proofs.taking.item7.Tie as tie
 
 size-7-requires : tie.Need-size-7-requires
 size-7-requires c κs = search needs

@@ -1,0 +1,2 @@
+// A request file taken apart into what it was written from.
+pub mod taking;
