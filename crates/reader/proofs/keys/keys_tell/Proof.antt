@@ -26,7 +26,7 @@ add-first-repeat c =
 first-repeat-requires : tie.Need-first-repeat-requires
 first-repeat-requires c κs =
     let a = c .before .before .before .before .args in
-    rw (c .before .before .of .ensures, c .before .count .ensures) (key-fits (a .kind) (a .file .now) _ (omega arith))
+    rw (c .before .before .of .ensures, c .before .count .ensures) (omega arith, key-fits (a .kind) (a .file .now) _ (omega arith))
 
 add-refused-at : tie.Need-add-refused-at
 add-refused-at c = search needs

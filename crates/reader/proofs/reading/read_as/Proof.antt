@@ -48,7 +48,8 @@ returns-3 c =
 keys-tell-requires : tie.Need-keys-tell-requires
 keys-tell-requires c κs =
     let l = c .before .before .before .before .before .before in
-    length-good _ _ (rw (l .before .before .length-tells .ensures) at (l .if1 .left)) .fewest
+    let good = length-good _ _ (rw (l .before .before .length-tells .ensures) at (l .if1 .left)) in
+    (good .fewest, good .most)
 
 returns-4 : tie.Need-returns-4
 unfolding readAs

@@ -1,0 +1,65 @@
+-- One key after the other.
+use Prim.Native.Nat.{_≤_, _-_}
+use Rattle.laws.proofs.Tabs.{tab-start, tab-more, tab-end}
+use Rattle.laws.specs.Tabulate.{tabulate}
+use Rattle.reader.specs.Keys.{hashAt, hashesOf}
+use Rattle.tables.specs.Kinds.{limit}
+use lib.ListN.{length, take, length-set}
+use mathlib.Core.List.{[]}
+use mathlib.Core.Path.{_≡_, refl}
+use native.Mathlib.Nat.{le-antisymm}
+use native.Mathlib.Omega.{arith}
+use borrow.Author.Needs.{needs}
+use Rattle.reader.proofs.keys.hashes.Statement.{statement}
+use Rattle.reader.proofs.keys.hashes.Tie as tie
+
+abbrev Inv-loop : tie.InvT-loop
+Inv-loop s n stride offset size list₀ i₀ list i =
+    (i ≤ limit) × (length list ≡ limit) × (take i list ≡ tabulate (hashAt stride offset size s n) i)
+
+abbrev μ-loop : tie.MeasureT-loop
+μ-loop s n stride offset size list₀ i₀ list i = limit - i
+
+loop-holds : tie.Need-loop-holds Inv-loop μ-loop
+loop-holds c = (search needs, refl, tab-start (hashAt _ _ _ _ _) [])
+
+hash-at-requires : tie.Need-hash-at-requires Inv-loop μ-loop
+hash-at-requires c κs = search needs
+
+mul-list : tie.Need-mul-list Inv-loop μ-loop
+mul-list c = search needs
+
+array-write-list : tie.Need-array-write-list Inv-loop μ-loop
+array-write-list c = search needs
+
+add-i : tie.Need-add-i Inv-loop μ-loop
+add-i c = search needs
+
+loop-less : tie.Need-loop-less Inv-loop μ-loop
+loop-less c = search needs
+
+loop-again : tie.Need-loop-again Inv-loop μ-loop
+loop-again c =
+    let l = c .before .before .loop in
+    (search needs, simp length-set (l .inv .1), tab-more _ (l .list) (l .i) _ (omega arith) (l .inv .2) (c .hash-at .ensures))
+
+returns : tie.Need-returns Inv-loop μ-loop
+unfolding hashesOf
+returns c =
+    let l = c .before .loop in
+    tab-end _ (l .list) limit (l .inv .1) (rw (← le-antisymm (c .loop-test .left) (l .inv .0)) at (l .inv .2))
+
+pub hashes-spec : {M : Type 1} → statement M
+hashes-spec =
+    tie.close
+    (tie.spec
+    Inv-loop
+    μ-loop
+    loop-holds
+    hash-at-requires
+    mul-list
+    array-write-list
+    add-i
+    loop-less
+    loop-again
+    returns)
