@@ -1,5 +1,6 @@
 // The face for C: numbers and slices in, numbers out. No rule of its own.
 pub mod pairs;
+pub mod post;
 pub mod read;
 mod telling;
 pub mod walk;

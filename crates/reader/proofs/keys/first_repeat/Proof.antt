@@ -73,10 +73,13 @@ shares-requires c κs =
     let h = c .before .before .before .before in
     let p = h .before .before in (
       rw (l .inv .2) (p .pre .1 i (l .inv .1)),
-      (p .pre .1 (l .j) (omega arith), (
-        rw (h .hashes .ensures, l .inv .2) (hash-of _ _ _ _ _ (p .pre .0) i (l .inv .1)),
-        rw (h .hashes .ensures) (hash-of _ _ _ _ _ (p .pre .0) (l .j) (omega arith)),
-      )),
+      (
+        p .pre .1 (l .j) (omega arith),
+        (
+          rw (h .hashes .ensures, l .inv .2) (hash-of _ _ _ _ _ (p .pre .0) i (l .inv .1)),
+          rw (h .hashes .ensures) (hash-of _ _ _ _ _ (p .pre .0) (l .j) (omega arith)),
+        ),
+      ),
     )
 
 add-j : tie.Need-add-j Inv-loop μ-loop Inv-search μ-search

@@ -1,0 +1,4 @@
+-- Laws about the definitions of specs/.
+pub mod Widths
+pub mod Following
+pub mod Posted

@@ -1,0 +1,89 @@
+-- What the text says of an accepted pair: each line what became of its request, the first line the sums over all of them.
+-- Assumes nothing.
+use Prim.Native.Nat.{ℕ, _+_, _-_, _≤_, _<_}
+use mathlib.Core.Bool.{true}
+use mathlib.Core.List.{List, _++_}
+use mathlib.Core.Path.{_≡_, sym, _∙_}
+use native.Mathlib.Omega.{arith}
+use borrow.Author.Tests.{le-leb, lt-leb}
+use lib.ListN.{length, drop}
+use Rattle.laws.proofs.Sums.{sum-add}
+use Rattle.tables.specs.declared.kinds.Kind.the-variants.{EB21}
+use Rattle.layout.specs.declared.answers.Answer.{Answer}
+use Rattle.layout.specs.Answers.{_then_}
+use Rattle.layout.proofs.Told.{refuses-is, refuses-not, then-first, then-second, then-zero}
+use Rattle.reader.specs.Records.{dataOf}
+use Rattle.pair.specs.declared.kinds.PairKind.the-variants.{Debit}
+use Rattle.pair.specs.Amounts.{askedAt, takenAt, notTakenAt}
+use Rattle.pair.specs.Outcomes.{asksFor, outcomeAs}
+use Rattle.pair.specs.Pairing.{pairBy}
+use Rattle.pair.specs.Sums.{sumsOf}
+use Rattle.pair.proofs.Matched.{Paired, pair-known}
+use Rattle.pair.proofs.Money.{each-request}
+use Rattle.posting.specs.Lines.{refusalLine, requestLine}
+use Rattle.posting.specs.Posting.{sizeTells, postTells, lineAt, acceptedText, postText, postSize, postAfter}
+
+module _ (q r : List ℕ) where
+  -- the stages: the request's size, the result's, the pair
+  pub by-request-size : (sizeTells 1 q .number ≡ 0 → ⊥) → postTells q r ≡ sizeTells 1 q
+  unfolding postTells
+  by-request-size ne = then-first (sizeTells 1 q) _ ne
+
+  module _ (good : sizeTells 1 q .number ≡ 0) where
+    pub by-result-size : (sizeTells 2 r .number ≡ 0 → ⊥) → postTells q r ≡ sizeTells 2 r
+    unfolding postTells
+    by-result-size ne = then-second (sizeTells 1 q) _ good ∙ then-first (sizeTells 2 r) _ ne
+
+    pub by-pair : sizeTells 2 r .number ≡ 0 → postTells q r ≡ pairBy Debit q r true
+    unfolding postTells
+    by-pair fine = then-second (sizeTells 1 q) _ good ∙ then-second (sizeTells 2 r) _ fine
+
+  -- the two texts
+  pub text-refused : (a : Answer) → a ≡ postTells q r → (a .number ≡ 0 → ⊥) → postText q r ≡ refusalLine a
+  unfolding postText
+  text-refused a e ne = rw (← e, refuses-is a ne)
+
+  pub text-accepted : (a : Answer) → a ≡ postTells q r → a .number ≡ 0 → postText q r ≡ acceptedText q r
+  unfolding postText
+  text-accepted a e z = rw (← e, refuses-not a z)
+
+  -- the buffer where the text fits, and where it is longer
+  pub size-fits : (room : ℕ) → length (postText q r) ≤ room → postSize q r room ≡ length (postText q r)
+  unfolding postSize
+  size-fits room h = rw (le-leb (length (postText q r)) room h)
+
+  pub size-short : (room : ℕ) → room < length (postText q r) → postSize q r room ≡ 0
+  unfolding postSize
+  size-short room h = rw (lt-leb (length (postText q r)) room h)
+
+  pub after-fits : (text : List ℕ) → length (postText q r) ≤ length text → postAfter q r text ≡ postText q r ++ drop (length (postText q r)) text
+  unfolding postAfter
+  after-fits text h = rw (le-leb (length (postText q r)) (length text) h)
+
+  pub after-short : (text : List ℕ) → length text < length (postText q r) → postAfter q r text ≡ text
+  unfolding postAfter
+  after-short text h = rw (lt-leb (length (postText q r)) (length text) h)
+
+  -- where nothing is refused the pair is accepted
+  pub posted-pair : postTells q r .number ≡ 0 → pairBy Debit q r true .number ≡ 0
+  unfolding postTells
+  posted-pair e =
+      let a = then-zero (sizeTells 1 q) (sizeTells 2 r then pairBy Debit q r true) e in
+      then-zero (sizeTells 2 r) (pairBy Debit q r true) (a .1) .1
+
+  pub posted-known : (a : Answer) → a ≡ postTells q r → a .number ≡ 0 → Paired Debit q r
+  posted-known a e z = pair-known Debit q r true (posted-pair (rw e at z))
+
+  -- *Posted sums*: the first line's sums are over all requests, and what was asked is what was taken and what was not
+  pub posted-sums : postTells q r .number ≡ 0 → sumsOf Debit q r .asked ≡ sumsOf Debit q r .taken + sumsOf Debit q r .«not_taken»
+  unfolding sumsOf
+  posted-sums e =
+      sum-add (takenAt Debit q r) (notTakenAt Debit q r) (askedAt Debit q) (dataOf EB21 q)
+      (λ i l. sym (each-request Debit q r true (posted-pair e) i l))
+
+  -- *Posted lines*: each line says what `outcome` says of its request
+  pub posted-line : postTells q r .number ≡ 0 → (i : ℕ) → i < dataOf EB21 q → lineAt q r i ≡ requestLine (i + 1) (outcomeAs Debit q r (i + 1) .outcome)
+  unfolding lineAt outcomeAs asksFor
+  posted-line e i h =
+      let less : (i + 1) - 1 ≡ i = omega arith in
+      rw (refuses-not (pairBy Debit q r true) (posted-pair e), le-leb 1 (i + 1) (omega arith), le-leb (i + 1) (dataOf EB21 q) (omega arith), less)

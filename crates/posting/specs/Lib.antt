@@ -1,0 +1,5 @@
+-- The text that people read.
+pub mod Decimal
+pub mod Lines
+pub mod Posting
+pub mod Puts

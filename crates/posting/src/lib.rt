@@ -1,0 +1,4 @@
+// The text that people read.
+mod lines;
+pub mod posting;
+mod puts;

@@ -1,0 +1,103 @@
+// The lines of the posting program, each put at a place of a lent buffer.
+ghost use mathlib.Core.Path.{_≡_};
+ghost use Prim.Native.Nat.{_+_, _≤_};
+ghost use lib.ListN.{length, getD};
+ghost use Rattle.pair.specs.Outcomes.{fourOf};
+ghost use Rattle.posting.specs.Lines.{wordFor, refusalLine, acceptedLine, requestLine};
+ghost use Rattle.posting.specs.Puts.{putAt};
+use crate::puts;
+use layout::answers::Answer;
+use pair::cases::Outcome;
+use pair::sums::Sums;
+
+// refused SIDE NUMBER RECORD ITEM CODE
+pub(crate) fn put_refusal(text: &mut [u8], at: usize, answer: Answer) -> usize
+    requires { ⌜ at + 100 ≤ length (now text) ⌝ }
+    ensures { λ r. ⌜ r ≡ at + length (refusalLine answer) ⌝ }
+    ensures { λ _. ⌜ now (text .exit) ≡ putAt at (refusalLine answer) (now (text .entry)) ⌝ }
+    ensures { λ r. ⌜ r ≤ at + 100 ⌝ }
+{
+    let side = puts::put_bytes(text, at, b"refused ");
+    let number = puts::put_number(text, side, answer.side, b' ');
+    let rec = puts::put_number(text, number, answer.number, b' ');
+    let item = puts::put_number(text, rec, answer.rec, b' ');
+    let code = puts::put_number(text, item, answer.item, b' ');
+    puts::put_code(text, code, answer.code)
+}
+
+// accepted REQUESTS ASKED TAKEN NOT-TAKEN
+pub(crate) fn put_accepted(text: &mut [u8], at: usize, n: u64, sums: Sums) -> usize
+    requires { ⌜ at + 100 ≤ length (now text) ⌝ }
+    ensures { λ r. ⌜ r ≡ at + length (acceptedLine n sums) ⌝ }
+    ensures { λ _. ⌜ now (text .exit) ≡ putAt at (acceptedLine n sums) (now (text .entry)) ⌝ }
+    ensures { λ r. ⌜ r ≤ at + 100 ⌝ }
+{
+    let requests = puts::put_bytes(text, at, b"accepted ");
+    let asked = puts::put_number(text, requests, n, b' ');
+    let taken = puts::put_number(text, asked, sums.asked, b' ');
+    let not_taken = puts::put_number(text, taken, sums.taken, b' ');
+    puts::put_number(text, not_taken, sums.not_taken, b'\n')
+}
+
+// The word of an outcome; no request has none.
+fn put_word(text: &mut [u8], at: usize, outcome: Outcome) -> usize
+    requires { ⌜ at + 8 ≤ length (now text) ⌝ }
+    ensures { λ r. ⌜ r ≡ at + length (wordFor outcome) ⌝ }
+    ensures { λ _. ⌜ now (text .exit) ≡ putAt at (wordFor outcome) (now (text .entry)) ⌝ }
+    ensures { λ r. ⌜ r ≤ at + 8 ⌝ }
+{
+    match outcome {
+        Outcome::None => at,
+        Outcome::Whole(_) => puts::put_bytes(text, at, b"whole "),
+        Outcome::Part(_, _, _) => puts::put_bytes(text, at, b"part "),
+        Outcome::Refused(_, _) => puts::put_bytes(text, at, b"refused "),
+    }
+}
+
+fn taken_of(outcome: Outcome) -> u64
+    ensures { λ r. ⌜ r ≡ getD (fourOf outcome) 1 0 ⌝ }
+{
+    match outcome {
+        Outcome::None => 0,
+        Outcome::Whole(taken) => taken,
+        Outcome::Part(taken, _, _) => taken,
+        Outcome::Refused(_, _) => 0,
+    }
+}
+
+fn not_taken_of(outcome: Outcome) -> u64
+    ensures { λ r. ⌜ r ≡ getD (fourOf outcome) 2 0 ⌝ }
+{
+    match outcome {
+        Outcome::None => 0,
+        Outcome::Whole(_) => 0,
+        Outcome::Part(_, not_taken, _) => not_taken,
+        Outcome::Refused(not_taken, _) => not_taken,
+    }
+}
+
+// Four spaces where there is no code.
+fn code_of(outcome: Outcome) -> u64
+    ensures { λ r. ⌜ r ≡ getD (fourOf outcome) 3 0 ⌝ }
+{
+    match outcome {
+        Outcome::None => 0x2020_2020,
+        Outcome::Whole(_) => 0x2020_2020,
+        Outcome::Part(_, _, code) => code,
+        Outcome::Refused(_, code) => code,
+    }
+}
+
+// NUMBER OUTCOME TAKEN NOT-TAKEN CODE
+pub(crate) fn put_request(text: &mut [u8], at: usize, number: u64, outcome: Outcome) -> usize
+    requires { ⌜ at + 80 ≤ length (now text) ⌝ }
+    ensures { λ r. ⌜ r ≡ at + length (requestLine number outcome) ⌝ }
+    ensures { λ _. ⌜ now (text .exit) ≡ putAt at (requestLine number outcome) (now (text .entry)) ⌝ }
+    ensures { λ r. ⌜ r ≤ at + 80 ⌝ }
+{
+    let word = puts::put_number(text, at, number, b' ');
+    let taken = put_word(text, word, outcome);
+    let not_taken = puts::put_number(text, taken, taken_of(outcome), b' ');
+    let code = puts::put_number(text, not_taken, not_taken_of(outcome), b' ');
+    puts::put_code(text, code, code_of(outcome))
+}
