@@ -1,0 +1,71 @@
+-- What is left gets shorter with each word.
+use Prim.Native.Nat.{_<_}
+use mathlib.Core.Path.{_≡_}
+use lib.ListN.{length}
+use Rattle.edges_pair.proofs.Shorter.{shorter}
+use borrow.Author.Needs.{needs}
+use Rattle.edges_pair.proofs.records.put_records.Statement.{statement}
+use Rattle.edges_pair.proofs.records.put_records.Tie as tie
+
+abbrev Inv-loop : tie.InvT-loop
+Inv-loop file₀ trailer₀ sample size side said n₀ left₀ file trailer n left = (n < 100) × (length file ≡ length file₀) × (length trailer ≡ length trailer₀)
+
+abbrev μ-loop : tie.MeasureT-loop
+μ-loop file₀ trailer₀ sample size side said n₀ left₀ file trailer n left = length left
+
+loop-holds : tie.Need-loop-holds Inv-loop μ-loop
+loop-holds c = search needs
+
+head-requires : tie.Need-head-requires Inv-loop μ-loop
+head-requires c κs = search needs
+
+put-word-requires : tie.Need-put-word-requires Inv-loop μ-loop
+put-word-requires c κs = search needs
+
+past-requires : tie.Need-past-requires Inv-loop μ-loop
+past-requires c κs = search needs
+
+sub-left : tie.Need-sub-left Inv-loop μ-loop
+sub-left c = search needs
+
+part-left-start : tie.Need-part-left-start Inv-loop μ-loop
+part-left-start c = search needs
+
+part-left-end : tie.Need-part-left-end Inv-loop μ-loop
+part-left-end c = search needs
+
+loop-less : tie.Need-loop-less Inv-loop μ-loop
+loop-less c =
+    let b = c .before .before .before .before .before .before .before .before .before in
+    shorter (b .before .before .loop .left .now) (c .before .past .result) (b .before .loop-test .taken) (c .before .past .ensures)
+
+loop-again : tie.Need-loop-again Inv-loop μ-loop
+loop-again c = search needs
+
+same-length : tie.Need-same-length Inv-loop μ-loop
+same-length c = search needs
+
+same-length-2 : tie.Need-same-length-2 Inv-loop μ-loop
+same-length-2 c = search needs
+
+returns : tie.Need-returns Inv-loop μ-loop
+returns c = search needs
+
+pub put-records-spec : {M : Type 1} → statement M
+put-records-spec =
+    tie.close
+    (tie.spec
+    Inv-loop
+    μ-loop
+    loop-holds
+    head-requires
+    put-word-requires
+    past-requires
+    sub-left
+    part-left-start
+    part-left-end
+    loop-less
+    loop-again
+    same-length
+    same-length-2
+    returns)

@@ -1,0 +1,68 @@
+-- What is left gets shorter with each line.
+use Prim.Native.Nat.{ℕ, _-_, _≤_, _<_}
+use mathlib.Core.List.{List}
+use native.Mathlib.Omega.{arith}
+use lib.ListN.{length, take, drop, length-take, length-drop}
+use borrow.Author.Needs.{needs}
+use Rattle.edges_post.proofs.cases.run_all.Statement.{statement}
+use Rattle.edges_post.proofs.cases.run_all.Tie as tie
+
+shorter : (s : List ℕ) (n : ℕ) → 0 < length s → (n ≤ length s) × (0 < length s → 0 < n) → length (take (length s - n) (drop n s)) < length s
+shorter s n full h =
+    let p : 0 < n = h .1 full in
+    simp (length-take, length-drop) (omega arith)
+
+abbrev Inv-loop : tie.InvT-loop
+Inv-loop list left₀ left = Unit {0}
+
+abbrev μ-loop : tie.MeasureT-loop
+μ-loop list left₀ left = length left
+
+loop-holds : tie.Need-loop-holds Inv-loop μ-loop
+loop-holds c = search needs
+
+head-requires : tie.Need-head-requires Inv-loop μ-loop
+head-requires c κs = search needs
+
+run-line-requires : tie.Need-run-line-requires Inv-loop μ-loop
+run-line-requires c κs = search needs
+
+past-requires : tie.Need-past-requires Inv-loop μ-loop
+past-requires c κs = search needs
+
+sub-left : tie.Need-sub-left Inv-loop μ-loop
+sub-left c = search needs
+
+part-left-start : tie.Need-part-left-start Inv-loop μ-loop
+part-left-start c = search needs
+
+part-left-end : tie.Need-part-left-end Inv-loop μ-loop
+part-left-end c = search needs
+
+loop-less : tie.Need-loop-less Inv-loop μ-loop
+loop-less c =
+    let b = c .before .before .before in
+    shorter (b .before .before .loop .left .now) (c .before .past .result) (b .before .loop-test .taken) (c .before .past .ensures)
+
+loop-again : tie.Need-loop-again Inv-loop μ-loop
+loop-again c = search needs
+
+returns : tie.Need-returns Inv-loop μ-loop
+returns c = search needs
+
+pub run-all-spec : {M : Type 1} → statement M
+run-all-spec =
+    tie.close
+    (tie.spec
+    Inv-loop
+    μ-loop
+    loop-holds
+    head-requires
+    run-line-requires
+    past-requires
+    sub-left
+    part-left-start
+    part-left-end
+    loop-less
+    loop-again
+    returns)

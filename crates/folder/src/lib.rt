@@ -1,0 +1,3 @@
+// The folder that a day lies in.
+mod files;
+pub mod posts;
