@@ -1,8 +1,24 @@
 /* Files of the Korean CMS direct debit service, read whole or not at all.
  *
- * A kind is its four letters as one big-endian number: "EB21" is 0x45423231.
- * A code is its four bytes in the same way: "0000" is 0x30303030.
- * A slice is a pointer and its length. Nothing is kept after a call returns. */
+ * A kind is its four letters as one big-endian number: "EB21" is 0x45423231. A pair is named by the kind of its
+ * request: CMS_EB13 is enrolment (EB13 with EB14), CMS_EB21 is debit (EB21 with EB22).
+ * A code is its four bytes in the same way: "0000" is 0x30303030, a blank code 0x20202020.
+ * A slice is a pointer and its length; nothing is read or written outside it, and nothing is kept after a call
+ * returns. Memory that a call writes may overlap nothing else that is lent to it.
+ *
+ * Every function takes any number, any bytes and any length. All but cms_post return the refusal's number, 0 when
+ * accepted, and store an answer that begins with five numbers:
+ *   answer[0] side    0 one file or the pair itself; 1, 2 when a pair's request or result is refused by reading
+ *   answer[1] number  what was returned
+ *   answer[2] record  header 0, data records 1 to n, trailer n + 1; 0 where there is no place
+ *   answer[3] item    from 1; 0 where there is no place
+ *   answer[4] code    the failure code of number 4; else "0000"
+ * A refusal leaves all other lent memory as it was.
+ *
+ * Numbers: 1 kind or pair unknown, 2 not whole records or fewer than two, 3 more than 430 data records, 4 an item
+ * breaks its rule, 5 an item disagrees with the kind or header, 6 a count or sum is wrong, 7 the key of an earlier
+ * record, 8 lent room is too short, 12 the headers of a pair differ, 13 a result without a request or with a copied
+ * item that differs, 14 an impossible amount, 15 no such request. */
 #ifndef CMS_H
 #define CMS_H
 
@@ -18,17 +34,45 @@ extern "C" {
 #define CMS_EB21 UINT32_C(0x45423231)
 #define CMS_EB22 UINT32_C(0x45423232)
 
-/* Reads the file as one of the kind. Returns the refusal's number, 0 when accepted, and stores
- * side, number, record, item and code in answer[0] to answer[4]. Any kind, any bytes, any length. */
+/* Reads the file as one of the kind. */
 uint64_t cms_read(uint32_t kind, const uint8_t *file, size_t file_length, uint64_t answer[5]);
 
-/* Writes a request file (EB13 or EB21) into the room, from the date (6 bytes), the institution code
- * (10), for EB21 header items 6 (7) and 7 (16), which are empty for EB13, and the bodies (101 or 131
- * bytes each). Returns and answers as cms_read does. On success the first bytes of the room are the
- * file and those past it are unchanged; a refusal leaves the whole room as it was. */
+/* Writes a request file (EB13 or EB21) into the room, from the date (6 bytes), the institution code (10), for EB21
+ * header items 6 (7) and 7 (16), which are empty for EB13, and the bodies: data records without their items 1 to 3
+ * (101 or 131 bytes each). On success the first bytes of the room are the file, as many as 120 or 150 for each body
+ * and two more, and those past it are unchanged. */
 uint64_t cms_write(uint32_t kind, const uint8_t *date, size_t date_length, const uint8_t *code, size_t code_length,
                    const uint8_t *item6, size_t item6_length, const uint8_t *item7, size_t item7_length,
-                   const uint8_t *bodies, size_t bodies_length, uint8_t *room, size_t room_length, uint64_t answer[5]);
+                   const uint8_t *bodies, size_t bodies_length, uint8_t *room, size_t room_length,
+                   uint64_t answer[5]);
+
+/* Pairs a request with its result, which lists only failures. On success the lists hold what was taken and what was
+ * not of each request, in file order, in won (for enrolment 1 in one of them), and places past the last request are
+ * unchanged. Each list must have a place for every request. */
+uint64_t cms_pair(uint32_t pair, const uint8_t *request, size_t request_length, const uint8_t *result,
+                  size_t result_length, uint64_t *taken, size_t taken_length, uint64_t *not_taken,
+                  size_t not_taken_length, uint64_t answer[5]);
+
+/* What became of one request, by its record number 1 to n, once the whole pair is accepted. After the five:
+ *   answer[5] case       0 none, because refused; 1 whole; 2 part; 3 refused by its bank or the centre
+ *   answer[6] taken
+ *   answer[7] not taken
+ *   answer[8] code       the result's code; blank where there is none */
+uint64_t cms_outcome(uint32_t pair, const uint8_t *request, size_t request_length, const uint8_t *result,
+                     size_t result_length, uint64_t record, uint64_t answer[9]);
+
+/* Data record after data record of one file: record place + 1, or the end when the place is n or more. On a file that
+ * is not accepted it answers as cms_read, whatever the place. After the five:
+ *   answer[5] case    0 none, because refused; 1 a record; 2 the end
+ *   answer[6] start   the record's first byte in the file; 0 unless the case is 1
+ *   answer[7] length  its length; 0 unless the case is 1 */
+uint64_t cms_walk(uint32_t kind, const uint8_t *file, size_t file_length, uint64_t place, uint64_t answer[8]);
+
+/* What the posting program prints for a debit request and its result (a missing file is one of no bytes; one over
+ * 64,800 bytes is refusal 3 on its side, before all else). Returns how many bytes of the text that is; those past them
+ * are unchanged. Returns 0, with nothing changed, when the text is too short: no output is empty. */
+uint64_t cms_post(const uint8_t *request, size_t request_length, const uint8_t *result, size_t result_length,
+                  uint8_t *text, size_t text_length);
 
 #ifdef __cplusplus
 }

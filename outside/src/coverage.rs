@@ -344,11 +344,6 @@ pub fn all() -> Vec<Entry> {
     list.0
 }
 
-/// Every answer that reading can give, for each kind and an unknown one.
-pub fn reading() -> Vec<Entry> {
-    all().into_iter().filter(|entry| matches!(entry.operation, Operation::Read(_))).collect()
-}
-
 #[derive(Default)]
 struct List(Vec<Entry>);
 
@@ -444,12 +439,13 @@ impl Default for Counter {
 impl Counter {
     /// A counter of all operations.
     pub fn new() -> Counter {
-        Counter::of(all())
+        Counter::of(|_| true)
     }
 
-    /// A counter of the entries of a list.
-    pub fn of(list: Vec<Entry>) -> Counter {
-        Counter { listed: list.into_iter().map(|entry| (entry, 0)).collect(), unlisted: BTreeMap::new() }
+    /// A counter of the answers of some operations.
+    pub fn of(which: fn(&Operation) -> bool) -> Counter {
+        let listed = all().into_iter().filter(|entry| which(&entry.operation));
+        Counter { listed: listed.map(|entry| (entry, 0)).collect(), unlisted: BTreeMap::new() }
     }
 
     /// Counts one answer.

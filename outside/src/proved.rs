@@ -24,6 +24,36 @@ extern "C" {
         room_length: usize,
         answer: *mut u64,
     ) -> u64;
+    fn cms_pair(
+        pair: u32,
+        request: *const u8,
+        request_length: usize,
+        result: *const u8,
+        result_length: usize,
+        taken: *mut u64,
+        taken_length: usize,
+        not_taken: *mut u64,
+        not_taken_length: usize,
+        answer: *mut u64,
+    ) -> u64;
+    fn cms_outcome(
+        pair: u32,
+        request: *const u8,
+        request_length: usize,
+        result: *const u8,
+        result_length: usize,
+        record: u64,
+        answer: *mut u64,
+    ) -> u64;
+    fn cms_walk(kind: u32, file: *const u8, file_length: usize, place: u64, answer: *mut u64) -> u64;
+    fn cms_post(
+        request: *const u8,
+        request_length: usize,
+        result: *const u8,
+        result_length: usize,
+        text: *mut u8,
+        text_length: usize,
+    ) -> u64;
 }
 
 /// The answer of the proved reader: side, number, record, item, code.
@@ -87,6 +117,184 @@ pub fn try_write(kind: u32, parts: &Parts, room: &mut [u8]) -> Result<[u64; 5], 
     lent.guards_unchanged("around the room")?;
     room.copy_from_slice(lent.lent());
     told(returned, &answer)
+}
+
+/// The answer of the proved pairing, which changes both lists as its face says.
+pub fn pair(
+    pair: u32,
+    request: &[u8],
+    result: &[u8],
+    taken: &mut [u64],
+    not_taken: &mut [u64],
+) -> [u64; 5] {
+    kept(try_pair(pair, request, result, taken, not_taken))
+}
+
+/// As [`pair`], with a broken promise handed back.
+pub fn try_pair(
+    pair: u32,
+    request: &[u8],
+    result: &[u8],
+    taken: &mut [u64],
+    not_taken: &mut [u64],
+) -> Result<[u64; 5], Breach> {
+    let mut files = [request, result].map(Lent::slice);
+    let mut lists = [&*taken, &*not_taken].map(Lent::slice);
+    let mut answer = Lent::numbers::<5>();
+    // Safe: each pointer is good for the length that stands beside it, till the call returns.
+    let returned = unsafe {
+        cms_pair(
+            pair,
+            files[0].pointer(),
+            files[0].length(),
+            files[1].pointer(),
+            files[1].length(),
+            lists[0].pointer(),
+            lists[0].length(),
+            lists[1].pointer(),
+            lists[1].length(),
+            answer.pointer(),
+        )
+    };
+    files[0].all_unchanged("the request")?;
+    files[1].all_unchanged("the result")?;
+    lists[0].guards_unchanged("around the list of what was taken")?;
+    lists[1].guards_unchanged("around the list of what was not taken")?;
+    taken.copy_from_slice(lists[0].lent());
+    not_taken.copy_from_slice(lists[1].lent());
+    told(returned, &answer)
+}
+
+/// The answer of the proved outcome: the five, then case, taken, not taken, code.
+pub fn outcome(pair: u32, request: &[u8], result: &[u8], record: u64) -> [u64; 9] {
+    kept(try_outcome(pair, request, result, record))
+}
+
+/// As [`outcome`], with a broken promise handed back.
+pub fn try_outcome(pair: u32, request: &[u8], result: &[u8], record: u64) -> Result<[u64; 9], Breach> {
+    let mut files = [request, result].map(Lent::slice);
+    let mut answer = Lent::numbers::<9>();
+    // Safe: each pointer is good for the length that stands beside it, till the call returns.
+    let returned = unsafe {
+        cms_outcome(
+            pair,
+            files[0].pointer(),
+            files[0].length(),
+            files[1].pointer(),
+            files[1].length(),
+            record,
+            answer.pointer(),
+        )
+    };
+    files[0].all_unchanged("the request")?;
+    files[1].all_unchanged("the result")?;
+    told(returned, &answer)
+}
+
+/// The answer of the proved walk: the five, then case, start, length.
+pub fn walk(kind: u32, file: &[u8], place: u64) -> [u64; 8] {
+    kept(try_walk(kind, file, place))
+}
+
+/// As [`walk`], with a broken promise handed back.
+pub fn try_walk(kind: u32, file: &[u8], place: u64) -> Result<[u64; 8], Breach> {
+    let mut file = Lent::slice(file);
+    let mut answer = Lent::numbers::<8>();
+    // Safe: both pointers are good for the lengths that the face names, till the call returns.
+    let returned = unsafe { cms_walk(kind, file.pointer(), file.length(), place, answer.pointer()) };
+    file.all_unchanged("the file")?;
+    told(returned, &answer)
+}
+
+/// How many bytes of the text are the proved program's output, which changes the text as its face says.
+pub fn post(request: &[u8], result: &[u8], text: &mut [u8]) -> u64 {
+    kept(try_post(request, result, text))
+}
+
+/// As [`post`], with a broken promise handed back.
+pub fn try_post(request: &[u8], result: &[u8], text: &mut [u8]) -> Result<u64, Breach> {
+    let mut files = [request, result].map(Lent::slice);
+    let mut lent = Lent::slice(text);
+    // Safe: each pointer is good for the length that stands beside it, till the call returns.
+    let returned = unsafe {
+        cms_post(
+            files[0].pointer(),
+            files[0].length(),
+            files[1].pointer(),
+            files[1].length(),
+            lent.pointer(),
+            lent.length(),
+        )
+    };
+    files[0].all_unchanged("the request")?;
+    files[1].all_unchanged("the result")?;
+    lent.guards_unchanged("around the text")?;
+    text.copy_from_slice(lent.lent());
+    Ok(returned)
+}
+
+// ------------------------------------------------------------- without the watch
+
+/// The same functions with nothing copied and nothing watched, to measure their time.
+pub mod unwatched {
+    use super::Parts;
+
+    pub fn read(kind: u32, file: &[u8]) -> [u64; 5] {
+        let mut answer = [0; 5];
+        // Safe: each pointer is good for the length that stands beside it, till the call returns.
+        unsafe { super::cms_read(kind, file.as_ptr(), file.len(), answer.as_mut_ptr()) };
+        answer
+    }
+
+    pub fn write(kind: u32, parts: &Parts, room: &mut [u8]) -> [u64; 5] {
+        let mut answer = [0; 5];
+        // Safe: each pointer is good for the length that stands beside it, till the call returns.
+        unsafe {
+            super::cms_write(
+                kind,
+                parts.date.as_ptr(),
+                parts.date.len(),
+                parts.code.as_ptr(),
+                parts.code.len(),
+                parts.item6.as_ptr(),
+                parts.item6.len(),
+                parts.item7.as_ptr(),
+                parts.item7.len(),
+                parts.bodies.as_ptr(),
+                parts.bodies.len(),
+                room.as_mut_ptr(),
+                room.len(),
+                answer.as_mut_ptr(),
+            )
+        };
+        answer
+    }
+
+    pub fn pair(
+        pair: u32,
+        request: &[u8],
+        result: &[u8],
+        taken: &mut [u64],
+        not_taken: &mut [u64],
+    ) -> [u64; 5] {
+        let mut answer = [0; 5];
+        // Safe: each pointer is good for the length that stands beside it, till the call returns.
+        unsafe {
+            super::cms_pair(
+                pair,
+                request.as_ptr(),
+                request.len(),
+                result.as_ptr(),
+                result.len(),
+                taken.as_mut_ptr(),
+                taken.len(),
+                not_taken.as_mut_ptr(),
+                not_taken.len(),
+                answer.as_mut_ptr(),
+            )
+        };
+        answer
+    }
 }
 
 // ---------------------------------------------------------------------- promises

@@ -2,13 +2,14 @@
 //!
 //! `OUTSIDE_SEED` and `OUTSIDE_COUNT` choose the generated files.
 
-use outside::coverage::{self, Counter, Entry, Operation};
+mod common;
+
+use common::{check_coverage, good_file, keep, put, shown};
+use outside::coverage::{Counter, Operation};
 use outside::gen::{self, Rng};
 use outside::layout::{Kind, PairKind, MOST_RECORDS};
 use outside::shrink::shrink;
 use outside::{proved, read, settings, write, Answer};
-use std::hash::{DefaultHasher, Hash, Hasher};
-use std::path::PathBuf;
 
 // ------------------------------------------------------------------ one file
 
@@ -29,7 +30,7 @@ fn same_as_proved(told: &Answer, kind: u32, file: &[u8]) -> bool {
 /// Fails with the smallest file that shows a difference.
 fn report(kind: u32, file: &[u8]) -> ! {
     let smallest = shrink(Kind::known(kind), file, |file| !same_as_proved(&read(kind, file), kind, file));
-    let path = keep(kind, &smallest);
+    let path = keep(&format!("differs-as-{kind:08x}"), &smallest);
     let reference = shown(&read(kind, &smallest).five());
     let proved = match proved::try_read(kind, &smallest) {
         Ok(five) => shown(&five),
@@ -42,26 +43,6 @@ fn report(kind: u32, file: &[u8]) -> ! {
         file.len(),
         path.display()
     );
-}
-
-/// Writes a file to look at, under a name of its own, and says where.
-fn keep(kind: u32, file: &[u8]) -> PathBuf {
-    let mut hasher = DefaultHasher::new();
-    file.hash(&mut hasher);
-    let name = format!("differs-as-{kind:08x}-{:016x}", hasher.finish());
-    let path = PathBuf::from(env!("CARGO_TARGET_TMPDIR")).join(name);
-    std::fs::write(&path, file).expect("the target folder can be written");
-    path
-}
-
-/// An answer in words.
-fn shown(five: &[u64; 5]) -> String {
-    let [side, number, record, item, code] = five;
-    let code = match u32::try_from(*code) {
-        Ok(code) => code.to_be_bytes().escape_ascii().to_string(),
-        Err(_) => format!("{code:#x}"),
-    };
-    format!("side {side}, number {number}, record {record}, item {item}, code {code}")
 }
 
 // ------------------------------------------------------------ generated files
@@ -77,7 +58,7 @@ struct Run {
 #[test]
 fn generated_files() {
     let (seed, count) = (settings::seed(), settings::count(200_000));
-    let counter = Counter::of(coverage::reading());
+    let counter = Counter::of(|operation| matches!(operation, Operation::Read(_)));
     let mut run = Run { rng: Rng::new(seed), counter, reads: 0, most_accepted: 0, most: 0 };
     for _ in 0..count {
         let file = any_file(&mut run.rng);
@@ -85,7 +66,7 @@ fn generated_files() {
     }
     println!("seed {seed}, {count} files, {} reads by both", run.reads);
     println!("most data records: {} accepted, {} refused", run.most_accepted, run.most);
-    run.check_coverage(count);
+    check_coverage(&run.counter, count);
 }
 
 impl Run {
@@ -106,25 +87,6 @@ impl Run {
         let most = if told.is_accepted() { &mut self.most_accepted } else { &mut self.most };
         *most = n.max(*most);
     }
-
-    /// Every answer that reading can give was reached, and no other.
-    fn check_coverage(&self, count: u64) {
-        println!("{} answers can be given; how often the rarest were reached:", self.counter.size());
-        for (entry, times) in self.counter.rarest().iter().take(12) {
-            println!("{times:8} {entry}");
-        }
-        let unlisted = self.counter.unlisted();
-        assert!(unlisted.is_empty(), "the rules can't give:\n{}", lines(&unlisted));
-        // A few files can't reach them all.
-        if count >= 100_000 {
-            let never = self.counter.never();
-            assert!(never.is_empty(), "never reached:\n{}", lines(&never));
-        }
-    }
-}
-
-fn lines(entries: &[Entry]) -> String {
-    entries.iter().map(|entry| format!("{entry}\n")).collect()
 }
 
 /// A file by itself, one of a pair, or what the writer leaves in its room.
@@ -160,20 +122,6 @@ const DEBIT_PAYER: usize = 91;
 const DEBIT_USE: usize = 111;
 const DEBIT_TYPE: usize = 116;
 
-/// A good file of n data records.
-fn good_file(rng: &mut Rng, kind: Kind, n: usize) -> Vec<u8> {
-    loop {
-        let request = gen::request_of(rng, kind.pair().request(), n);
-        if kind.is_request() {
-            return request.file();
-        }
-        let result = gen::result_of(rng, &request, true);
-        if result.bodies.len() == n {
-            return result.file();
-        }
-    }
-}
-
 /// One good record n times: only the keys are at fault.
 fn same_records(rng: &mut Rng, kind: Kind, n: usize) -> Vec<u8> {
     let length = kind.record_length();
@@ -193,10 +141,6 @@ fn mend(kind: Kind, file: &mut [u8]) {
     }
     gen::mend_serials(kind, file);
     gen::mend_totals(kind, file);
-}
-
-fn put(file: &mut [u8], start: usize, text: &[u8]) {
-    file[start..start + text.len()].copy_from_slice(text);
 }
 
 #[test]

@@ -1,0 +1,162 @@
+//! The library beside the reference and beside a plain checksum pass, in one run on the same inputs.
+//!
+//! The three take turns, so that whatever else the machine does falls on all; of each the shortest turn counts.
+
+use outside::gen::{self, Draft, Rng};
+use outside::layout::{Kind, PairKind};
+use outside::proved::{unwatched, Parts};
+use outside::{pair, read, write};
+use std::hint::black_box;
+use std::time::{Duration, Instant};
+
+const SIZES: [usize; 3] = [10, 100, 430];
+const TURNS: usize = 40;
+const TURN: Duration = Duration::from_millis(4);
+
+/// One thing that is measured: for a size, the seconds of a call by library, reference and checksum.
+struct Case {
+    name: &'static str,
+    measure: fn(&mut Rng, usize) -> [f64; 3],
+}
+
+fn main() {
+    let checks = if cfg!(debug_assertions) { "with" } else { "without" };
+    println!(
+        "the reference was compiled {checks} overflow checks and assertions; microseconds of one call"
+    );
+    println!(
+        "{:<12}{:>8}{:>10}{:>10}{:>10}{:>14}{:>13}{:>16}",
+        "", "records", "library", "reference", "checksum", "lib/reference", "lib/checksum", "lib ns/record"
+    );
+    let cases = [
+        Case { name: "read EB21", measure: |rng, n| reading(rng, Kind::EB21, n) },
+        Case { name: "read EB13", measure: |rng, n| reading(rng, Kind::EB13, n) },
+        Case { name: "write EB21", measure: writing },
+        Case { name: "pair debit", measure: pairing },
+    ];
+    for case in cases {
+        let mut rng = Rng::new(1);
+        let times = SIZES.map(|n| (case.measure)(&mut rng, n));
+        for (n, [library, reference, checksum]) in SIZES.iter().zip(times) {
+            println!(
+                "{:<12}{n:>8}{:>10.2}{:>10.2}{:>10.2}{:>14.2}{:>13.1}{:>16.0}",
+                case.name,
+                library * 1e6,
+                reference * 1e6,
+                checksum * 1e6,
+                library / reference,
+                library / checksum,
+                library * 1e9 / *n as f64,
+            );
+        }
+        for who in 0..2 {
+            let name = ["library", "reference"][who];
+            let [small, middle, large] = times.map(|time| time[who]);
+            println!(
+                "{:<12}{name}: {:.1} times as long for 10 times the records, then {:.1} for 4.3 times",
+                "",
+                middle / small,
+                large / middle
+            );
+        }
+    }
+}
+
+/// A good request whose payers are numbered one after another, so that keys differ only at their end.
+fn request_of(rng: &mut Rng, kind: Kind, n: usize) -> Draft {
+    let mut draft = gen::request_of(rng, kind, n);
+    let put = |body: &mut [u8], item: usize, text: &[u8]| {
+        let start = gen::body_item(kind, item).start;
+        body[start..start + text.len()].copy_from_slice(text);
+    };
+    for (before, body) in draft.bodies.iter_mut().enumerate() {
+        put(body, kind.pair().key_item(), format!("{:<20}", 2_024_000_001 + before).as_bytes());
+        match kind.pair() {
+            PairKind::Enrolment => {
+                put(body, 5, b"1");
+                put(body, 9, b"8");
+            }
+            PairKind::Debit => put(body, 12, b"     "),
+        }
+    }
+    draft
+}
+
+fn reading(rng: &mut Rng, kind: Kind, n: usize) -> [f64; 3] {
+    let file = request_of(rng, kind, n).file();
+    let kind = kind.number();
+    assert_eq!(unwatched::read(kind, &file), read(kind, &file).five());
+    assert_eq!(unwatched::read(kind, &file)[1], 0);
+    in_turns([
+        &mut || unwatched::read(kind, black_box(&file))[1],
+        &mut || read(kind, black_box(&file)).number,
+        &mut || checksum(black_box(&file)),
+    ])
+}
+
+fn writing(rng: &mut Rng, n: usize) -> [f64; 3] {
+    let draft = request_of(rng, Kind::EB21, n);
+    let file = draft.file();
+    let bodies = draft.bodies.concat();
+    let Draft { date, code, item6, item7, .. } = &draft;
+    let parts = Parts { date, code, item6, item7, bodies: &bodies };
+    let kind = Kind::EB21.number();
+    let (mut room, mut other) = (vec![0; file.len()], vec![0; file.len()]);
+    let told = unwatched::write(kind, &parts, &mut room);
+    assert_eq!(told, write(kind, date, code, item6, item7, &bodies, &mut other).five());
+    assert!(room == file && other == file);
+    in_turns([
+        &mut || unwatched::write(kind, black_box(&parts), &mut room)[1],
+        &mut || write(kind, date, code, item6, item7, black_box(&bodies), &mut other).number,
+        &mut || checksum(black_box(&file)),
+    ])
+}
+
+/// Every second request is answered with "N", the last of them first.
+fn pairing(rng: &mut Rng, n: usize) -> [f64; 3] {
+    let request = request_of(rng, Kind::EB21, n);
+    let mut result = request.clone();
+    result.kind = Kind::EB22;
+    result.bodies = request.bodies.iter().rev().step_by(2).cloned().collect();
+    let place = gen::body_item(Kind::EB22, 8);
+    result.bodies.iter_mut().for_each(|body| body[place.clone()].copy_from_slice(b"N0021"));
+    let (request, result) = (request.file(), result.file());
+    let kind = Kind::EB21.number();
+    let [mut taken, mut not_taken, mut ones, mut others] = [(); 4].map(|()| vec![0; n]);
+    let told = unwatched::pair(kind, &request, &result, &mut taken, &mut not_taken);
+    assert_eq!(told, pair(kind, &request, &result, &mut ones, &mut others).five());
+    assert!(told[1] == 0 && taken == ones && not_taken == others);
+    in_turns([
+        &mut || unwatched::pair(kind, black_box(&request), &result, &mut taken, &mut not_taken)[1],
+        &mut || pair(kind, black_box(&request), &result, &mut ones, &mut others).number,
+        &mut || checksum(black_box(&request)) ^ checksum(black_box(&result)),
+    ])
+}
+
+/// FNV-1a: every byte once, one after another.
+fn checksum(file: &[u8]) -> u64 {
+    let step = |sum: u64, byte: &u8| (sum ^ u64::from(*byte)).wrapping_mul(0x0100_0000_01b3);
+    file.iter().fold(0xcbf2_9ce4_8422_2325, step)
+}
+
+/// The seconds of one call of each, in its shortest turn.
+fn in_turns(mut calls: [&mut dyn FnMut() -> u64; 3]) -> [f64; 3] {
+    let mut shortest = [f64::MAX; 3];
+    for _ in 0..TURNS {
+        for (call, shortest) in calls.iter_mut().zip(&mut shortest) {
+            *shortest = shortest.min(turn(*call));
+        }
+    }
+    shortest
+}
+
+/// As many calls as fit into a turn; the seconds of one.
+fn turn(call: &mut dyn FnMut() -> u64) -> f64 {
+    let start = Instant::now();
+    let mut calls = 0;
+    while start.elapsed() < TURN {
+        black_box(call());
+        calls += 1;
+    }
+    start.elapsed().as_secs_f64() / f64::from(calls)
+}
