@@ -4,9 +4,9 @@ use Prim.Native.Nat.{ℕ}
 use mathlib.Core.List.{List, [], _∷_}
 use mathlib.Core.Path.{_≡_, refl}
 use lib.ListN.{getD}
-use Rattle.pair.specs.declared.cases.Outcome.{Outcome}
-use Rattle.pair.specs.declared.cases.Outcome.the-variants as outcome
-use Rattle.pair.specs.Outcomes.{fourOf}
+use Rattle.outcomes.specs.declared.cases.Outcome.{Outcome}
+use Rattle.outcomes.specs.declared.cases.Outcome.the-variants as outcome
+use Rattle.outcomes.specs.Outcomes.{fourOf}
 use Rattle.walker.specs.declared.walking.Step.{Step}
 use Rattle.walker.specs.declared.walking.Step.the-variants as step
 use Rattle.walker.specs.Walks.{threeOf}

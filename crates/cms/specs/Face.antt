@@ -2,8 +2,8 @@
 use Prim.Native.Nat.{ℕ}
 use mathlib.Core.List.{List, [], _∷_, _++_}
 use Rattle.layout.specs.declared.answers.Answer.{Answer}
-use Rattle.pair.specs.declared.cases.Told.{Told}
-use Rattle.pair.specs.Outcomes.{fourOf}
+use Rattle.outcomes.specs.declared.cases.Told.{Told}
+use Rattle.outcomes.specs.Outcomes.{fourOf}
 use Rattle.walker.specs.declared.walking.Walked.{Walked}
 use Rattle.walker.specs.Walks.{threeOf}
 

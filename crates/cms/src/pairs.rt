@@ -2,10 +2,10 @@
 ghost use mathlib.Core.Path.{_≡_};
 ghost use lib.ListN.{length};
 ghost use Rattle.pair.specs.Pairing.{pairTold, takenAfter, notTakenAfter};
-ghost use Rattle.pair.specs.Outcomes.{outcomeTold};
+ghost use Rattle.outcomes.specs.Outcomes.{outcomeTold};
 ghost use Rattle.cms.specs.Face.{five, nine};
 use crate::telling;
-use pair::outcomes;
+use outcomes::asking;
 use pair::pairing;
 
 // Pairs a request with its result. Returns the refusal's number, 0 when accepted; a refusal leaves both lists as they were.
@@ -39,6 +39,6 @@ pub extern "C" fn cms_outcome(
     ensures { λ r. ⌜ r ≡ outcomeTold pair (now (request .entry)) (now (result .entry)) «record» .answer .number ⌝ }
     ensures { λ _. ⌜ now (answer .exit) ≡ nine (outcomeTold pair (now (request .entry)) (now (result .entry)) «record») ⌝ }
 {
-    let told = outcomes::outcome(pair as u64, request, result, record);
+    let told = asking::outcome(pair as u64, request, result, record);
     telling::tell_outcome(told, answer)
 }

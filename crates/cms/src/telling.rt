@@ -1,11 +1,11 @@
 // An answer as the numbers that are lent.
 ghost use mathlib.Core.Path.{_≡_};
-ghost use Rattle.pair.specs.Outcomes.{fourOf};
+ghost use Rattle.outcomes.specs.Outcomes.{fourOf};
 ghost use Rattle.walker.specs.Walks.{threeOf};
 ghost use Rattle.cms.specs.Face.{five, nine, eight};
 use layout::answers::Answer;
-use pair::cases::Outcome;
-use pair::cases::Told;
+use outcomes::cases::Outcome;
+use outcomes::cases::Told;
 use walker::walking::Step;
 use walker::walking::Walked;
 

@@ -1,10 +1,11 @@
 // Builds files at the edge of the rules, reads or writes each, and prints one line for it: its name and the answer.
+mod again;
 mod cases;
 mod files;
 mod good;
 mod reads;
 mod told;
-mod words;
+mod values;
 mod writes;
 
 use libc::STDIN_FILENO;

@@ -3,18 +3,19 @@
 use crate::cases;
 use crate::files;
 use crate::told;
-use crate::words;
+use crate::values;
 use reader::reading;
+use words::fields;
 
 // Builds the case that a line says, reads it and tells the answer. Every case has a file of its own, so that none sees
 // another's bytes.
 pub(crate) fn run(line: &[u8]) {
-    let kind = words::kind(words::word(1, line));
+    let kind = values::kind(fields::field(1, b' ', line));
     let mut file = io::large_buffer();
     cases::build(kind, &mut file, line, 4);
-    let bytes = words::number(words::word(3, line));
+    let bytes = values::number(fields::field(3, b' ', line));
     told::tell(
-        words::word(0, line),
+        fields::field(0, b' ', line),
         reading::read(kind, files::first(bytes, &file)),
     );
     told::end();

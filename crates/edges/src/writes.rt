@@ -3,15 +3,17 @@
 // nothing, and what stands in the file instead of what is good, each as RECORD@PLACE=BYTES.
 ghost use Prim.Native.Nat.{_≤_, _<_};
 ghost use lib.ListN.{length};
+use crate::again;
 use crate::cases;
 use crate::files;
 use crate::good;
 use crate::told;
-use crate::words;
+use crate::values;
 use layout::answers::Answer;
 use libc::STDOUT_FILENO;
 use reader::reading;
 use text::parts;
+use words::fields;
 use writer::writing;
 
 // The byte that stands at a place of the room before it is lent: none that a file ends with.
@@ -58,10 +60,10 @@ fn write(line: &[u8], kind: u64, bodies: &[u8], room: &mut [u8]) -> Answer {
     let mut code = [0u8; 32];
     let mut item6 = [0u8; 32];
     let mut item7 = [0u8; 32];
-    let d = put_part(&mut date, words::word(5, line));
-    let c = put_part(&mut code, words::word(6, line));
-    let s = put_part(&mut item6, words::word(7, line));
-    let t = put_part(&mut item7, words::word(8, line));
+    let d = put_part(&mut date, fields::field(5, b' ', line));
+    let c = put_part(&mut code, fields::field(6, b' ', line));
+    let s = put_part(&mut item6, fields::field(7, b' ', line));
+    let t = put_part(&mut item7, fields::field(8, b' ', line));
     writing::write(
         kind,
         files::first(d, &date),
@@ -73,8 +75,8 @@ fn write(line: &[u8], kind: u64, bodies: &[u8], room: &mut [u8]) -> Answer {
     )
 }
 
-// How much of the room was left alone. Of a file that was written also what reading it says, and reading all of it but
-// its last byte.
+// How much of the room was left alone. Of a file that was written also what reading it says, reading all of it but its
+// last byte, and whether it is the same when it is taken apart and written again.
 fn tell_room(kind: u64, answer: Answer, room: &[u8], shown: bool) {
     let n = kept(room);
     io::write_all(STDOUT_FILENO, b" kept");
@@ -94,6 +96,7 @@ fn tell_file(kind: u64, file: &[u8], shown: bool) {
             reading::read(kind, files::first(file.len() - 1, file)),
         );
     }
+    again::tell(kind, file);
     told::end();
     if shown {
         told::tell_records(file, good::size_of(kind));
@@ -103,14 +106,14 @@ fn tell_file(kind: u64, file: &[u8], shown: bool) {
 // Writes what a line says into a room of marks, and tells the answer and what became of the room.
 fn write_case(line: &[u8], kind: u64, bodies: &[u8], room: &mut [u8], shown: bool) {
     mark_all(room);
-    let lent = files::at_most(words::number(words::word(4, line)), room);
+    let lent = files::at_most(values::number(fields::field(4, b' ', line)), room);
     let answer = write(line, kind, bodies, &mut room[..lent]);
-    told::tell(parts::rest(words::word(0, line), 1), answer);
+    told::tell(parts::rest(fields::field(0, b' ', line), 1), answer);
     tell_room(kind, answer, files::first(lent, room), shown);
 }
 
 pub(crate) fn run(line: &[u8], shown: bool) {
-    let kind = words::kind(words::word(1, line));
+    let kind = values::kind(fields::field(1, b' ', line));
     let mut file = io::large_buffer();
     let mut bodies = io::large_buffer();
     let mut room = io::large_buffer();
@@ -119,8 +122,8 @@ pub(crate) fn run(line: &[u8], shown: bool) {
         &mut bodies,
         &file,
         good::size_of(kind),
-        words::number(words::word(2, line)),
+        values::number(fields::field(2, b' ', line)),
     );
-    let given = files::first(words::number(words::word(3, line)), &bodies);
+    let given = files::first(values::number(fields::field(3, b' ', line)), &bodies);
     write_case(line, kind, given, &mut room, shown);
 }

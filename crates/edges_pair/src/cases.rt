@@ -3,11 +3,12 @@
 use crate::files;
 use crate::good;
 use crate::told;
-use crate::words;
+use crate::values;
 use layout::answers::Answer;
-use pair::outcomes;
+use outcomes::asking;
 use pair::pairing;
 use text::parts;
+use words::fields;
 
 // What the lists hold before they are lent.
 const TAKEN: u64 = 1_000_000_000_000_000;
@@ -29,9 +30,9 @@ fn lend(
 
 // Tells the answer and what became of the lists.
 fn run_pair(line: &[u8], request: &[u8], result: &[u8], taken: &mut [u64], not_taken: &mut [u64]) {
-    let kind = words::kind(words::field(1, b' ', line));
+    let kind = values::kind(fields::field(1, b' ', line));
     let answer = lend(kind, request, result, taken, not_taken);
-    told::tell_bytes(words::field(0, b' ', line));
+    told::tell_bytes(fields::field(0, b' ', line));
     told::tell_answer(answer);
     told::tell_bytes(b" taken");
     told::tell_list(taken, TAKEN);
@@ -42,9 +43,9 @@ fn run_pair(line: &[u8], request: &[u8], result: &[u8], taken: &mut [u64], not_t
 
 // What became of one request.
 fn run_outcome(line: &[u8], request: &[u8], result: &[u8], rec: u64) {
-    let kind = words::kind(words::field(1, b' ', line));
-    let asked = outcomes::outcome(kind, request, result, rec);
-    told::tell_bytes(words::field(0, b' ', line));
+    let kind = values::kind(fields::field(1, b' ', line));
+    let asked = asking::outcome(kind, request, result, rec);
+    told::tell_bytes(fields::field(0, b' ', line));
     told::tell_bytes(b" of");
     told::tell_number(rec);
     let answer = asked.answer;
@@ -57,23 +58,23 @@ fn run_outcome(line: &[u8], request: &[u8], result: &[u8], rec: u64) {
 // A word may ask for one.
 fn run_word(line: &[u8], request: &[u8], result: &[u8], word: &[u8]) {
     if parts::byte(word, 0) == b'o' {
-        run_outcome(line, request, result, words::number(parts::rest(word, 1)));
+        run_outcome(line, request, result, values::number(parts::rest(word, 1)));
     }
 }
 
 fn run_outcomes(line: &[u8], request: &[u8], result: &[u8], said: &[u8]) {
     let mut left = said;
     while 0 < left.len() {
-        run_word(line, request, result, words::head(b' ', left));
-        let next = words::past(b' ', left);
+        run_word(line, request, result, fields::head(b' ', left));
+        let next = fields::past(b' ', left);
         left = &left[next..];
     }
 }
 
 // The lists are as long as the line says.
 fn run_lists(line: &[u8], request: &[u8], result: &[u8]) {
-    let t = words::number_below(10, words::field(2, b' ', line));
-    let u = words::number_below(10, words::field(3, b' ', line));
+    let t = values::number_below(10, fields::field(2, b' ', line));
+    let u = values::number_below(10, fields::field(3, b' ', line));
     let mut taken = [0u64; 10];
     let mut not_taken = [0u64; 10];
     run_pair(line, request, result, &mut taken[..t], &mut not_taken[..u]);
@@ -81,8 +82,8 @@ fn run_lists(line: &[u8], request: &[u8], result: &[u8]) {
 
 // Every case has files and lists of its own, so that none sees another's.
 fn run(line: &[u8]) {
-    let said = words::after(4, b' ', line);
-    let kind = words::kind(words::field(1, b' ', line));
+    let said = fields::after(4, b' ', line);
+    let kind = values::kind(fields::field(1, b' ', line));
     let mut request = io::buffer();
     let mut result = io::buffer();
     let q = good::build(&mut request, kind, b'q', said);
@@ -108,8 +109,8 @@ fn run_line(line: &[u8]) {
 pub(crate) fn run_all(text: &[u8]) {
     let mut left = text;
     while 0 < left.len() {
-        run_line(words::head(b'\n', left));
-        let next = words::past(b'\n', left);
+        run_line(fields::head(b'\n', left));
+        let next = fields::past(b'\n', left);
         left = &left[next..];
     }
 }

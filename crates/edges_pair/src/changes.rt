@@ -2,17 +2,18 @@
 // the letter of its side.
 ghost use Prim.Native.Nat.{_≤_};
 use crate::files;
-use crate::words;
+use crate::values;
 use text::parts;
+use words::fields;
 
 // Puts what a word RECORD@PLACE=BYTES says.
 fn change(file: &mut [u8], size: usize, word: &[u8])
     requires { ⌜ size ≤ 150 ⌝ }
 {
-    let place = words::head(b'=', word);
-    let from = files::start(size, words::number_below(1000, words::head(b'@', place)));
-    let at = from + words::number_below(1000, words::tail(b'@', place));
-    files::put(file, at, words::tail(b'=', word));
+    let place = fields::head(b'=', word);
+    let from = files::start(size, values::number_below(1000, fields::head(b'@', place)));
+    let at = from + values::number_below(1000, fields::tail(b'@', place));
+    files::put(file, at, fields::tail(b'=', word));
 }
 
 // How many bytes the file has after a word of its side: a record stands there already, and a change keeps them.
@@ -21,7 +22,7 @@ fn alter(file: &mut [u8], size: usize, bytes: usize, word: &[u8]) -> usize
 {
     match parts::byte(word, 0) {
         b'=' => bytes,
-        b':' => words::number_below(10000, parts::rest(word, 1)),
+        b':' => values::number_below(10000, parts::rest(word, 1)),
         _ => {
             change(file, size, word);
             bytes
@@ -46,8 +47,8 @@ pub(crate) fn alter_all(file: &mut [u8], size: usize, side: u8, whole: usize, sa
     let mut bytes = whole;
     let mut left = said;
     while 0 < left.len() {
-        bytes = alter_by(file, size, side, bytes, words::head(b' ', left));
-        let next = words::past(b' ', left);
+        bytes = alter_by(file, size, side, bytes, fields::head(b' ', left));
+        let next = fields::past(b' ', left);
         left = &left[next..];
     }
     bytes

@@ -1,6 +1,6 @@
 // Bytes and numbers put into a file that is being built.
 ghost use Prim.Native.Nat.{_≤_, _<_, _^_};
-use crate::words;
+use crate::values;
 use text::numbers;
 use text::parts;
 
@@ -51,7 +51,7 @@ pub(crate) fn add(file: &mut [u8], at: usize, w: usize, n: u64)
     requires { ⌜ w ≤ 13 ⌝ }
     requires { ⌜ n < 10 ^ 13 ⌝ }
 {
-    let so_far = words::number(first(w, parts::rest(file, at)));
+    let so_far = values::number(first(w, parts::rest(file, at)));
     put_number(file, at, w, so_far + n);
 }
 

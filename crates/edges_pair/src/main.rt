@@ -6,7 +6,7 @@ mod files;
 mod good;
 mod records;
 mod told;
-mod words;
+mod values;
 
 use libc::STDIN_FILENO;
 

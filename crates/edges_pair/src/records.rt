@@ -1,14 +1,15 @@
 // The data records that the words of a case say, each counted in the trailer.
 ghost use Prim.Native.Nat.{_≤_, _<_};
 use crate::files;
-use crate::words;
+use crate::values;
 use text::parts;
+use words::fields;
 
 // PAYER,APPLICATION,RESULT of an enrolment.
 fn put_enrolment(rec: &mut [u8], said: &[u8]) {
-    files::put(rec, 26, words::field(0, b',', said));
-    files::put(rec, 25, words::field(1, b',', said));
-    files::put(rec, 91, words::field(2, b',', said));
+    files::put(rec, 26, fields::field(0, b',', said));
+    files::put(rec, 25, fields::field(1, b',', said));
+    files::put(rec, 91, fields::field(2, b',', said));
 }
 
 // It counts for its application.
@@ -24,16 +25,16 @@ fn count_enrolment(trailer: &mut [u8], rec: &[u8]) {
 
 // PAYER,AMOUNT,TYPE,RESULT of a debit.
 fn put_debit(rec: &mut [u8], said: &[u8]) {
-    let amount = words::number(words::field(1, b',', said));
-    files::put(rec, 91, words::field(0, b',', said));
+    let amount = values::number(fields::field(1, b',', said));
+    files::put(rec, 91, fields::field(0, b',', said));
     files::put_number(rec, 42, 13, amount);
-    files::put(rec, 116, words::field(2, b',', said));
-    files::put(rec, 68, words::field(3, b',', said));
+    files::put(rec, 116, fields::field(2, b',', said));
+    files::put(rec, 68, fields::field(3, b',', said));
 }
 
 // It counts and sums with the "P" records, or with all others.
 fn count_debit(trailer: &mut [u8], rec: &[u8]) {
-    let amount = words::number(files::first(13, parts::rest(rec, 42)));
+    let amount = values::number(files::first(13, parts::rest(rec, 42)));
     files::add(trailer, 27, 8, 1);
     if parts::byte(rec, 68) == b'P' {
         files::add(trailer, 56, 8, 1);
@@ -124,9 +125,9 @@ pub(crate) fn put_records(
             size,
             side,
             n,
-            words::head(b' ', left),
+            fields::head(b' ', left),
         );
-        let next = words::past(b' ', left);
+        let next = fields::past(b' ', left);
         left = &left[next..];
     }
     n

@@ -2,7 +2,7 @@
 ghost use Prim.Native.Nat.{_≤_};
 use layout::answers::Answer;
 use libc::STDOUT_FILENO;
-use pair::cases::Outcome;
+use outcomes::cases::Outcome;
 use text::numbers;
 
 pub(crate) fn tell_bytes(bytes: &[u8]) {

@@ -1,23 +1,24 @@
 // A case: its name, what the request is, how many bytes of it are laid, and the same of the result.
 use crate::days;
-use crate::words;
+use crate::values;
 use libc::STDOUT_FILENO;
 use text::parts;
+use words::fields;
 
 // Lays a file that the first two words say, and hands out what follows them.
 fn lay<'a>(line: &'a [u8], name: &[u8]) -> &'a [u8] {
-    let rest = words::tail(b' ', line);
+    let rest = fields::tail(b' ', line);
     days::lay(
-        words::head(b' ', line),
-        words::number(words::head(b' ', rest)),
+        fields::head(b' ', line),
+        values::number(fields::head(b' ', rest)),
         name,
     );
-    words::tail(b' ', rest)
+    fields::tail(b' ', rest)
 }
 
 fn run(line: &[u8]) {
-    lay(lay(words::tail(b' ', line), b"request"), b"result");
-    io::write_all(STDOUT_FILENO, words::head(b' ', line));
+    lay(lay(fields::tail(b' ', line), b"request"), b"result");
+    io::write_all(STDOUT_FILENO, fields::head(b' ', line));
     io::write_all(STDOUT_FILENO, b" ");
     folder::posts::post();
 }
@@ -34,8 +35,8 @@ fn run_line(line: &[u8]) {
 pub(crate) fn run_all(list: &[u8]) {
     let mut left = list;
     while 0 < left.len() {
-        run_line(words::head(b'\n', left));
-        let next = words::past(b'\n', left);
+        run_line(fields::head(b'\n', left));
+        let next = fields::past(b'\n', left);
         left = &left[next..];
     }
 }

@@ -1,7 +1,7 @@
 // Lays days at the edge of the rules into its folder, posts each as the posting program does, and prints what it is told.
 mod cases;
 mod days;
-mod words;
+mod values;
 
 use libc::STDIN_FILENO;
 use text::parts;

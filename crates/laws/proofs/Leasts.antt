@@ -122,10 +122,6 @@ none-each p n t = least-before p n (eqb-true (least p n) n t)
 pub none-if : (p : ℕ → Bool) (n : ℕ) → ((k : ℕ) → k < n → p k ≡ false) → none p n ≡ true
 none-if p n f = none-true p n (least-none p n f)
 
-pub none-not : (p : ℕ → Bool) (n k : ℕ) → k < n → p k ≡ true → none p n ≡ false
-unfolding none
-none-not p n k h t = ne-eqb (least p n) n (λ q. absurd (omega (arith, least-some p n k h t)))
-
 pub some-true : (p : ℕ → Bool) (n k : ℕ) → k < n → p k ≡ true → some p n ≡ true
 unfolding some
 some-true p n k h t = lt-ltb (least p n) n (least-some p n k h t)

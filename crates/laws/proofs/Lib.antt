@@ -6,3 +6,4 @@ pub mod Parts
 pub mod Every
 pub mod Joins
 pub mod Tabs
+pub mod Answers

@@ -55,6 +55,3 @@ module _ (f : ℕ → ℕ) (old : List ℕ) where
   fill-more i v h e =
       rw (drop-cons old i 0 h, set-at (tabulate f i) (getD old i 0) (drop (suc i) old) v i (tab-length f i), e, add-one)
       (sym (append-assoc (tabulate f i) (f i ∷ []) (drop (suc i) old)))
-
-  pub fill-length : (i : ℕ) → i ≤ length old → length (tabulate f i ++ drop i old) ≡ length old
-  fill-length i h = length-append (tabulate f i) (drop i old) ∙ rw (tab-length f i, length-drop) (omega arith)

@@ -26,10 +26,11 @@ pub fn judge(kind: Kind, role: Role, rec: &[u8], header: &[u8], number: u64) -> 
     requires { ⌜ length (now header) ≡ fixedOf kind .size ⌝ }
     ensures { λ r. ⌜ r ≡ judgeOf kind role (now (rec .entry)) (now (header .entry)) number ⌝ }
 {
-    let rows = records::row_count(kind, role);
+    let count = records::row_count(kind, role);
+    let rows = records::rows_of(kind, role);
     let mut i = 0;
-    while i < rows {
-        let row = records::row_at(kind, role, i);
+    while i < count {
+        let row = rows[i];
         if rules::holds(kind, row, rec, header, number) {
             i += 1;
         } else {

@@ -11,12 +11,13 @@ use Rattle.reader.specs.Records.{dataOf}
 use Rattle.reader.specs.Reading.{readAs}
 use Rattle.reader.specs.Meets.{Meets}
 use Rattle.reader.proofs.Exact.{read-exact}
-use Rattle.pair.specs.declared.kinds.PairKind.{PairKind}
-use Rattle.pair.specs.Kinds.{requestKind, resultKind}
+use Rattle.terms.specs.declared.kinds.PairKind.{PairKind}
+use Rattle.terms.specs.Kinds.{requestKind, resultKind}
+use Rattle.terms.specs.Same.{HeadersAgree}
+use Rattle.terms.proofs.Zero.{number-of}
 use Rattle.pair.specs.Matching.{requestFor, resultFor}
 use Rattle.pair.specs.Pairing.{listsFit, pairAs}
-use Rattle.pair.specs.Assigned.{HeadersAgree, Assignment}
-use Rattle.pair.proofs.Zero.{number-of}
+use Rattle.pair.specs.Assigned.{Assignment}
 use Rattle.pair.proofs.Keys.{result-back}
 use Rattle.pair.proofs.Matched.{Paired, met-is, met-found, pair-known, known-pair}
 

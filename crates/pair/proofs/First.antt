@@ -13,17 +13,18 @@ use Rattle.layout.proofs.Told.{refuses-zero, refuses-other, told, First, Good}
 use Rattle.reader.specs.Records.{recordOf, dataOf}
 use Rattle.reader.specs.Reading.{readAs}
 use Rattle.reader.proofs.Exact.{read-exact}
-use Rattle.pair.specs.declared.kinds.PairKind.{PairKind}
-use Rattle.pair.specs.declared.items.Compared.the-variants.{Headers}
-use Rattle.pair.specs.Kinds.{requestKind, resultKind}
-use Rattle.pair.specs.Items.{comparedOf}
+use Rattle.terms.specs.declared.kinds.PairKind.{PairKind}
+use Rattle.terms.specs.declared.items.Compared.the-variants.{Headers}
+use Rattle.terms.specs.Kinds.{requestKind, resultKind}
+use Rattle.terms.specs.Items.{comparedOf}
+use Rattle.terms.specs.Meeting.{headersTell}
+use Rattle.terms.specs.Same.{HeadersAgree}
+use Rattle.terms.proofs.Zero.{number-of, read-zero}
+use Rattle.terms.proofs.Compared.{Differs, items-told, headers-told}
 use Rattle.pair.specs.Results.{resultTells, resultsTell}
-use Rattle.pair.specs.Pairing.{headersTell, pairBy, listsFit, pairAs}
-use Rattle.pair.specs.Assigned.{HeadersAgree}
+use Rattle.pair.specs.Pairing.{pairBy, listsFit, pairAs}
 use Rattle.pair.specs.First.{Stands, StandTo, BothRead, Ready, Reached, PairSays}
 use Rattle.pair.proofs.Stages.{by-request, by-result, by-headers, by-room, by-results}
-use Rattle.pair.proofs.Zero.{number-of, read-zero}
-use Rattle.pair.proofs.Compared.{Differs, items-told, headers-told}
 use Rattle.pair.proofs.Said.{ResultSays, result-says, refused-number}
 
 module _ (p : PairKind) (q r : List ℕ) (fits : Bool) where

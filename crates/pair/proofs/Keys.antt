@@ -4,21 +4,18 @@ use Prim.Native.Nat.{ℕ, _≤_, _<_}
 use mathlib.Core.List.{List}
 use mathlib.Core.Path.{_≡_, sym, _∙_}
 use native.Mathlib.Omega.{arith}
-use Rattle.laws.specs.Part.{part}
 use Rattle.laws.proofs.Leasts.{least-is, least-some}
-use Rattle.laws.proofs.Parts.{part-join, same-equal, same-self}
+use Rattle.laws.proofs.Parts.{same-equal, same-self}
 use Rattle.tables.specs.declared.kinds.Kind.{Kind}
-use Rattle.tables.specs.Copied.{among, itemsBut, enrolmentCopied, debitCopied}
-use Rattle.tables.specs.Kinds.{fixedOf}
-use Rattle.tables.specs.Tables.{dataFront, enrolmentData, debitData, eb13Data, eb21Data}
 use Rattle.reader.specs.Records.{dataOf}
 use Rattle.reader.specs.Keys.{keyAt}
 use Rattle.reader.specs.Meets.{Distinct}
-use Rattle.pair.specs.declared.kinds.PairKind.{PairKind}
-use Rattle.pair.specs.declared.kinds.PairKind.the-variants.{Enrolment, Debit}
-use Rattle.pair.specs.Kinds.{requestKind, resultKind}
+use Rattle.terms.specs.declared.kinds.PairKind.{PairKind}
+use Rattle.terms.specs.Kinds.{requestKind, resultKind}
+use Rattle.terms.specs.Same.{requestAt, resultAt}
+use Rattle.terms.proofs.Places.{agree-key}
 use Rattle.pair.specs.Matching.{hasKey, placeOf, requestFor, resultFor}
-use Rattle.pair.specs.Assigned.{requestAt, resultAt, Agree, Matches, Met}
+use Rattle.pair.specs.Assigned.{Matches, Met}
 
 module _ (k : Kind) (s key : List ℕ) where
   -- what is found has the key
@@ -73,16 +70,7 @@ module _ (p : PairKind) (q r : List ℕ) where
       requestFor p q r (resultFor p q r i) ≡ i
   request-back d i h l = request-is d i (resultFor p q r i) (result-found i h l)
 
--- records that agree in every copied item have the same key: it is two copied items, 5 and 6 or 11 and 12
-agree-key :
-    (p : PairKind) (request result : List ℕ) → Agree p request result →
-    part (fixedOf (requestKind p) .key .start) (fixedOf (requestKind p) .key .size) request ≡
-    part (fixedOf (resultKind p) .key .start) (fixedOf (resultKind p) .key .size) result
-unfolding enrolmentCopied debitCopied itemsBut among eb13Data eb21Data enrolmentData debitData dataFront
-agree-key Enrolment request result h = part-join 25 1 20 request result (h 2 (omega arith)) (h 3 (omega arith))
-agree-key Debit request result h = part-join 91 20 5 request result (h 6 (omega arith)) (h 7 (omega arith))
-
--- so a result that can answer a request matches it
+-- a result that can answer a request matches it, since they agree in the key
 pub met-matches : (p : PairKind) (q r : List ℕ) (i j : ℕ) → j < dataOf (resultKind p) r → Met p q r i j → Matches p q r i j
 unfolding keyAt
 met-matches p q r i j h m =

@@ -11,17 +11,18 @@ use Rattle.layout.proofs.Told.{told-all}
 use Rattle.reader.specs.Records.{dataOf}
 use Rattle.reader.specs.Meets.{Meets}
 use Rattle.reader.proofs.Exact.{read-exact}
-use Rattle.pair.specs.declared.kinds.PairKind.{PairKind}
-use Rattle.pair.specs.Kinds.{requestKind, resultKind}
+use Rattle.terms.specs.declared.kinds.PairKind.{PairKind}
+use Rattle.terms.specs.Kinds.{requestKind, resultKind}
+use Rattle.terms.specs.Same.{HeadersAgree}
+use Rattle.terms.proofs.Zero.{number-of, meets-zero}
+use Rattle.terms.proofs.Compared.{headers-told}
 use Rattle.pair.specs.Matching.{requestFor, resultFor}
 use Rattle.pair.specs.Results.{resultTells, resultsTell}
 use Rattle.pair.specs.Pairing.{pairBy, listsFit, pairAs}
-use Rattle.pair.specs.Assigned.{HeadersAgree, Met}
+use Rattle.pair.specs.Assigned.{Met}
 use Rattle.pair.specs.First.{PairSays}
 use Rattle.pair.proofs.Stages.{by-results, pair-fits}
-use Rattle.pair.proofs.Zero.{number-of, meets-zero}
 use Rattle.pair.proofs.Keys.{request-is, request-back, met-matches}
-use Rattle.pair.proofs.Compared.{headers-told}
 use Rattle.pair.proofs.Said.{met-told, refused-number}
 use Rattle.pair.proofs.First.{pair-says}
 

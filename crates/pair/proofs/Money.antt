@@ -22,22 +22,22 @@ use Rattle.reader.specs.Records.{dataOf, trailerOf}
 use Rattle.reader.specs.Totals.{worth, worthAt, quantityOf}
 use Rattle.reader.specs.Meets.{Meets}
 use Rattle.reader.proofs.Accepted.{total-value}
-use Rattle.pair.specs.declared.kinds.PairKind.{PairKind}
-use Rattle.pair.specs.declared.kinds.PairKind.the-variants.{Enrolment, Debit}
-use Rattle.pair.specs.Kinds.{requestKind, resultKind, asks}
+use Rattle.terms.specs.declared.kinds.PairKind.{PairKind}
+use Rattle.terms.specs.declared.kinds.PairKind.the-variants.{Enrolment, Debit}
+use Rattle.terms.specs.Kinds.{requestKind, resultKind, asks}
+use Rattle.terms.proofs.Marks.{debit-mark}
+use Rattle.terms.proofs.Possible.{possible-most}
 use Rattle.pair.specs.Matching.{requestFor, resultFor}
-use Rattle.pair.specs.Amounts.{askedAt, takenAt, notTakenAt}
+use Rattle.pair.specs.Amounts.{askedAt, takenAt, notTakenBy, notTakenAt}
 use Rattle.pair.specs.Pairing.{pairBy, pairAs}
 use Rattle.pair.specs.Trailers.{failedAs, askedInAll}
 use Rattle.pair.proofs.Keys.{result-back, request-back}
-use Rattle.pair.proofs.Marks.{debit-mark}
-use Rattle.pair.proofs.Possible.{possible-most}
 use Rattle.pair.proofs.Matched.{Paired, pair-known, lent-pair, result-met}
 
 module _ (p : PairKind) (q r : List ℕ) (h : Paired p q r) where
   -- no more was not taken than was asked
   not-taken-most : (i : ℕ) → i < dataOf (requestKind p) q → notTakenAt p q r i ≤ askedAt p q i
-  unfolding notTakenAt askedAt worthAt
+  unfolding notTakenAt notTakenBy askedAt worthAt
   not-taken-most i l = ⊎-elim some (λ f. rw f zero-le) (either (ltb (resultFor p q r i) (dataOf (resultKind p) r)))
     where
       some : ltb (resultFor p q r i) (dataOf (resultKind p) r) ≡ true → notTakenAt p q r i ≤ askedAt p q i
@@ -82,7 +82,7 @@ result-totals p q r fits e t l =
 
 -- what was not taken is what the results add to what is asked
 pub not-taken-failed : (p : PairKind) (q r : List ℕ) (i : ℕ) → notTakenAt p q r i ≡ failedAs p q r (asks p) i
-unfolding notTakenAt failedAs
+unfolding notTakenAt notTakenBy failedAs
 not-taken-failed p q r i = refl
 
 -- debit: what was not taken, by the results' marks
@@ -99,7 +99,7 @@ module _ (q r : List ℕ) (fits : Bool) (e : pairBy Debit q r fits .number ≡ 0
 
   -- a result is one or the other
   either-mark : (i : ℕ) → notTakenAt Debit q r i ≡ failedAs Debit q r (AmountsMarked 0x4E) i + failedAs Debit q r (AmountsMarked 0x50) i
-  unfolding notTakenAt failedAs worthAt worth
+  unfolding notTakenAt notTakenBy failedAs worthAt worth
   either-mark i = ⊎-elim some (λ f. rw f) (either (ltb (resultFor Debit q r i) (dataOf EB22 r)))
     where
       some : ltb (resultFor Debit q r i) (dataOf EB22 r) ≡ true → notTakenAt Debit q r i ≡ failedAs Debit q r (AmountsMarked 0x4E) i + failedAs Debit q r (AmountsMarked 0x50) i

@@ -3,28 +3,24 @@
 use Prim.Native.Nat.{ℕ, _-_, _≤_}
 use mathlib.Core.Bool.{true}
 use mathlib.Core.List.{List}
-use mathlib.Core.Path.{_≡_, refl, _∙_}
+use mathlib.Core.Path.{_≡_, refl}
 use mathlib.Core.Logic.{_↔_}
 use native.Mathlib.Omega.{arith}
 use Rattle.layout.specs.Answers.{accepted, refused}
 use Rattle.reader.specs.Records.{dataOf}
 use Rattle.reader.specs.Reading.{readAs}
-use Rattle.pair.specs.declared.kinds.PairKind.{PairKind}
-use Rattle.pair.specs.declared.kinds.PairNamed.{PairNamed}
-use Rattle.pair.specs.declared.kinds.PairNamed.the-variants.{Is, Unknown}
-use Rattle.pair.specs.declared.cases.Outcome.the-variants.{None, Whole}
-use Rattle.pair.specs.Kinds.{requestKind, resultKind, pairOf}
+use Rattle.terms.specs.declared.kinds.PairKind.{PairKind}
+use Rattle.terms.specs.declared.kinds.PairNamed.{PairNamed}
+use Rattle.terms.specs.declared.kinds.PairNamed.the-variants.{Is, Unknown}
+use Rattle.terms.specs.Kinds.{requestKind, resultKind, pairOf}
+use Rattle.terms.specs.Same.{HeadersAgree}
 use Rattle.pair.specs.Amounts.{takenAt, notTakenAt}
-use Rattle.pair.specs.Pairing.{onSide, pairBy, listsFit, pairAs, listAfter, pairNamed, pairTold, takenAfter, notTakenAfter}
-use Rattle.pair.specs.Outcomes.{told, outcomeAs, outcomeTold}
-use Rattle.pair.specs.Assigned.{HeadersAgree, Assignment}
+use Rattle.pair.specs.Pairing.{pairBy, listsFit, pairAs, listAfter, pairNamed, pairTold, takenAfter, notTakenAfter}
+use Rattle.pair.specs.Assigned.{Assignment}
 use Rattle.pair.specs.First.{PairSays}
-use Rattle.pair.specs.Listed.{Listed, Paid}
 use Rattle.pair.proofs.First.{lent-says}
 use Rattle.pair.proofs.Matched.{lent-pair}
 use Rattle.pair.proofs.Exact.{pair-exact}
-use Rattle.pair.proofs.Outcome.{outcome-listed}
-use Rattle.pair.proofs.Guess.{result-refused, whole-only}
 
 module _ (kind : ℕ) (q r : List ℕ) where
   -- a number that names no pair kind
@@ -32,22 +28,11 @@ module _ (kind : ℕ) (q r : List ℕ) where
   unfolding pairTold
   pair-unknown taken notTaken e = rw e
 
-  pub outcome-unknown : (rec : ℕ) → pairOf kind ≡ Unknown → outcomeTold kind q r rec ≡ told (refused 1) None
-  unfolding outcomeTold
-  outcome-unknown rec e = rw e
-
   -- a number that names one
   module _ (p : PairKind) (named : pairOf kind ≡ Is p) where
     pub pair-named : (taken notTaken : ℕ) → pairTold kind q r taken notTaken ≡ pairAs p q r taken notTaken
     unfolding pairTold
     pair-named taken notTaken = rw named
-
-    pub outcome-named : (rec : ℕ) → outcomeTold kind q r rec ≡ outcomeAs p q r rec
-    unfolding outcomeTold
-    outcome-named rec = rw named
-
-    pub whole-named : (rec taken : ℕ) → outcomeTold kind q r rec .outcome ≡ Whole taken → Paid p q r rec taken
-    whole-named rec taken e = whole-only p q r rec taken (rw (outcome-named rec) at e)
 
     module _ (taken notTaken : ℕ) where
       pub taken-named :
@@ -70,20 +55,6 @@ module _ (kind : ℕ) (q r : List ℕ) where
           dataOf (requestKind p) q ≤ taken → dataOf (requestKind p) q ≤ notTaken →
           (pairTold kind q r taken notTaken ≡ accepted) ↔ Assignment p q r
       exact-named eq er headers a b = rw (pair-named taken notTaken) (pair-exact p q r eq er headers taken notTaken a b)
-
-      -- *No guess*
-      pub refused-named :
-          readAs (requestKind p) q .number ≡ 0 → (readAs (resultKind p) r .number ≡ 0 → ⊥) →
-          pairTold kind q r taken notTaken ≡ onSide 2 (readAs (resultKind p) r)
-      refused-named e ne = pair-named taken notTaken ∙ result-refused p q r taken notTaken e ne
-
-      -- *One outcome*
-      pub listed-named :
-          pairTold kind q r taken notTaken .number ≡ 0 → (rec : ℕ) → 1 ≤ rec → rec ≤ dataOf (requestKind p) q → (l m : List ℕ) →
-          Listed (outcomeTold kind q r rec) (takenAfter kind q r taken notTaken l) (notTakenAfter kind q r taken notTaken m) (rec - 1)
-      listed-named e rec first last l m =
-          rw (outcome-named rec, taken-named l, not-taken-named m)
-          (outcome-listed p q r rec first last taken notTaken (rw (pair-named taken notTaken) at e) l m)
 
   -- what is accepted under a number is an accepted pair of the kind that the number names
   pub record Known : Type 0 where

@@ -14,19 +14,22 @@ use Rattle.layout.specs.Answers.{accepted, _then_}
 use Rattle.layout.proofs.Told.{then-first, then-second}
 use Rattle.reader.specs.Records.{dataOf}
 use Rattle.reader.specs.Meets.{Meets}
-use Rattle.pair.specs.declared.kinds.PairKind.{PairKind}
-use Rattle.pair.specs.declared.items.Compared.the-variants.{Records}
-use Rattle.pair.specs.Kinds.{requestKind, resultKind}
-use Rattle.pair.specs.Items.{comparedOf, itemsTell}
+use Rattle.terms.specs.declared.kinds.PairKind.{PairKind}
+use Rattle.terms.specs.declared.items.Compared.the-variants.{Records}
+use Rattle.terms.specs.Kinds.{requestKind, resultKind}
+use Rattle.terms.specs.Items.{comparedOf, itemsTell}
+use Rattle.terms.specs.Amounts.{amountsTell}
+use Rattle.terms.specs.Meeting.{meetsTell}
+use Rattle.terms.specs.Same.{requestAt, resultAt, Agree}
+use Rattle.terms.specs.Possible.{AmountsRefused}
+use Rattle.terms.proofs.Zero.{number-of}
+use Rattle.terms.proofs.Compared.{Differs, items-told, same-told}
+use Rattle.terms.proofs.Possible.{AmountsTold, amounts-told, possible-told}
 use Rattle.pair.specs.Matching.{requestFor}
-use Rattle.pair.specs.Amounts.{amountsTell}
-use Rattle.pair.specs.Results.{meetsTell, resultTells}
-use Rattle.pair.specs.Assigned.{requestAt, resultAt, Agree, Matches, Met}
-use Rattle.pair.specs.First.{AmountsRefused, ResultRefused, Stands}
-use Rattle.pair.proofs.Zero.{number-of}
+use Rattle.pair.specs.Results.{resultTells}
+use Rattle.pair.specs.Assigned.{Matches, Met}
+use Rattle.pair.specs.First.{ResultRefused, Stands}
 use Rattle.pair.proofs.Keys.{request-found, request-none}
-use Rattle.pair.proofs.Compared.{Differs, items-told, same-told}
-use Rattle.pair.proofs.Possible.{AmountsTold, amounts-told, possible-told}
 
 pub data ResultSays (p : PairKind) (q r : List ℕ) (j : ℕ) : Answer → Type 0 where
   stands : Stands p q r j → ResultSays p q r j accepted

@@ -4,24 +4,29 @@ use Prim.Native.Nat.{ℕ, _≤_}
 use mathlib.Core.Bool.{Bool, true, false}
 use mathlib.Core.List.{List, _++_}
 use mathlib.Core.Logic.{⊎-elim}
-use mathlib.Core.Path.{_≡_, refl, _∙_}
+use mathlib.Core.Path.{_≡_, refl, _∙_, ap}
 use native.Mathlib.Omega.{arith}
 use borrow.Author.Tests.{leb-true, eq-eqb, ne-eqb}
 use lib.Dec.{leb}
 use lib.ListN.{drop}
 use Rattle.laws.specs.Tabulate.{tabulate}
 use Rattle.laws.proofs.Bools.{and-left, and-right, either}
+use Rattle.tables.specs.declared.kinds.Kind.{Kind}
 use Rattle.layout.specs.declared.answers.Answer.{Answer}
 use Rattle.layout.specs.Answers.{accepted, refused, _then_}
 use Rattle.layout.proofs.Told.{then-first, then-second, then-zero}
-use Rattle.tables.specs.declared.kinds.Kind.{Kind}
 use Rattle.reader.specs.Records.{dataOf}
 use Rattle.reader.specs.Reading.{readAs}
-use Rattle.pair.specs.declared.kinds.PairKind.{PairKind}
-use Rattle.pair.specs.Kinds.{requestKind, resultKind}
+use Rattle.terms.specs.declared.kinds.PairKind.{PairKind}
+use Rattle.terms.specs.Kinds.{requestKind, resultKind}
+use Rattle.terms.specs.Meeting.{headersTell}
+use Rattle.terms.proofs.Zero.{number-of}
 use Rattle.pair.specs.Results.{resultsTell}
-use Rattle.pair.specs.Pairing.{onSide, headersTell, roomTells, pairBy, listsFit, pairAs, listAfter}
-use Rattle.pair.specs.Outcomes.{asksFor}
+use Rattle.pair.specs.Pairing.{onSide, roomTells, pairBy, listsFit, pairAs, listAfter}
+
+-- the number of an answer that reading gave for what is this kind
+pub read-number : (kind k : Kind) (s : List ℕ) (a : Answer) → k ≡ kind → a ≡ readAs k s → a .number ≡ readAs kind s .number
+read-number kind k s a is told = number-of (told ∙ ap (λ (x : Kind). readAs x s) is)
 
 module _ (p : PairKind) (q r : List ℕ) (fits : Bool) where
   pub by-request : (readAs (requestKind p) q .number ≡ 0 → ⊥) → pairBy p q r fits ≡ onSide 1 (readAs (requestKind p) q)
@@ -76,11 +81,6 @@ module _ (p : PairKind) (q r : List ℕ) (a b n : ℕ) (k : Kind) (fits : Bool) 
   pub lent-told : (x : Answer) → x ≡ pairBy p q r fits → x ≡ pairAs p q r a b
   unfolding pairAs
   lent-told x e = rw (← kind, ← count, ← room) e
-
--- and that a request is asked for
-pub asks-for-is : (n rec : ℕ) → asksFor n rec ≡ true → (1 ≤ rec) × (rec ≤ n)
-unfolding asksFor
-asks-for-is n rec t = (leb-true 1 rec (and-left (leb 1 rec) (leb rec n) t), leb-true rec n (and-right (leb 1 rec) (leb rec n) t))
 
 -- a lent list afterwards
 pub list-filled : (a : Answer) (f : ℕ → ℕ) (n : ℕ) (l : List ℕ) → a .number ≡ 0 → listAfter a f n l ≡ tabulate f n ++ drop n l

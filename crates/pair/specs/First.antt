@@ -1,5 +1,5 @@
 -- What each answer about a pair says: what is reported is the first thing wrong, in the order of the paper.
-use Prim.Native.Nat.{ℕ, _+_, _-_, _≤_, _<_}
+use Prim.Native.Nat.{ℕ, _+_, _<_}
 use mathlib.Core.Bool.{Bool, true, false}
 use mathlib.Core.List.{List}
 use mathlib.Core.Path.{_≡_}
@@ -8,37 +8,16 @@ use Rattle.tables.specs.Kinds.{fixedOf}
 use Rattle.tables.specs.Copied.{noItem}
 use Rattle.layout.specs.declared.answers.Answer.{Answer}
 use Rattle.layout.specs.Answers.{accepted, refused, refusedAt}
-use Rattle.layout.specs.Items.{amountOf, markOf, typeOf}
 use Rattle.reader.specs.Records.{recordOf, dataOf}
 use Rattle.reader.specs.Reading.{readAs}
-use Rattle.pair.specs.declared.kinds.PairKind.{PairKind}
-use Rattle.pair.specs.declared.kinds.PairKind.the-variants.{Debit}
-use Rattle.pair.specs.declared.items.Compared.the-variants.{Headers, Records}
-use Rattle.pair.specs.Kinds.{requestKind, resultKind}
-use Rattle.pair.specs.Items.{comparedOf}
+use Rattle.terms.specs.declared.kinds.PairKind.{PairKind}
+use Rattle.terms.specs.declared.items.Compared.the-variants.{Headers, Records}
+use Rattle.terms.specs.Kinds.{requestKind, resultKind}
+use Rattle.terms.specs.Items.{comparedOf}
+use Rattle.terms.specs.Same.{requestAt, resultAt, SameItem, SameTo, Agree, HeadersAgree}
+use Rattle.terms.specs.Possible.{AmountsRefused}
 use Rattle.pair.specs.Pairing.{onSide}
-use Rattle.pair.specs.Assigned.{requestAt, resultAt, SameItem, SameTo, Agree, HeadersAgree, baseFor, Matches, Met}
-
--- why the amounts of a debit are not possible: "P" on type "1"
-pub data OnTypeOne : PairKind → List ℕ → List ℕ → Type 0 where
-  one : {request result : List ℕ} → markOf result ≡ 0x50 → typeOf request ≡ 0x31 → OnTypeOne Debit request result
-
--- or an amount that cannot be
-pub data Impossible : PairKind → List ℕ → List ℕ → Type 0 where
-  -- "N" with another amount than was asked
-  other : {request result : List ℕ} → markOf result ≡ 0x4E → (amountOf result ≡ amountOf request → ⊥) → Impossible Debit request result
-  -- "P" with no less than was asked
-  none : {request result : List ℕ} → markOf result ≡ 0x50 → amountOf request ≤ amountOf result → Impossible Debit request result
-  -- "P" that takes less than the base
-  under : {request result : List ℕ} → markOf result ≡ 0x50 → amountOf result < amountOf request →
-      amountOf request - amountOf result < baseFor request → Impossible Debit request result
-
--- 14: why the amounts of result record `rec` are refused
-pub data AmountsRefused (p : PairKind) (rec : ℕ) (request result : List ℕ) : Answer → Type 0 where
-  -- "P" on type "1"
-  typeOne : OnTypeOne p request result → AmountsRefused p rec request result (refusedAt 14 rec 13 0x30303030)
-  -- it is not, and the amount is impossible
-  amount : (OnTypeOne p request result → ⊥) → Impossible p request result → AmountsRefused p rec request result (refusedAt 14 rec 6 0x30303030)
+use Rattle.pair.specs.Assigned.{Matches, Met}
 
 -- why result j + 1 is refused
 pub data ResultRefused (p : PairKind) (q r : List ℕ) (j : ℕ) : Answer → Type 0 where

@@ -1,14 +1,16 @@
 -- Which request a result answers, and which result answers a request: by key, never by serial.
-use Prim.Native.Nat.{ℕ}
+use Prim.Native.Nat.{ℕ, _+_}
 use mathlib.Core.Bool.{Bool}
 use mathlib.Core.List.{List}
 use Rattle.laws.specs.Least.{least}
 use Rattle.laws.specs.Part.{same}
 use Rattle.tables.specs.declared.kinds.Kind.{Kind}
+use Rattle.tables.specs.Kinds.{fixedOf}
+use Rattle.keys.specs.Keys.{placesIn}
 use Rattle.reader.specs.Records.{dataOf}
 use Rattle.reader.specs.Keys.{keyAt}
-use Rattle.pair.specs.declared.kinds.PairKind.{PairKind}
-use Rattle.pair.specs.Kinds.{requestKind, resultKind}
+use Rattle.terms.specs.declared.kinds.PairKind.{PairKind}
+use Rattle.terms.specs.Kinds.{requestKind, resultKind}
 
 -- data record i + 1 has the key
 unfoldable pub hasKey : Kind → List ℕ → List ℕ → ℕ → Bool
@@ -24,3 +26,16 @@ requestFor p q r j = placeOf (requestKind p) q (keyAt (resultKind p) r j)
 
 unfoldable pub resultFor : PairKind → List ℕ → List ℕ → ℕ → ℕ
 resultFor p q r i = placeOf (resultKind p) r (keyAt (requestKind p) q i)
+
+-- where the first key of a file stands: both kinds of a pair have it at one place
+abbrev pub firstKey : PairKind → ℕ
+firstKey p = fixedOf (requestKind p) .size + fixedOf (requestKind p) .key .start
+
+-- those of all results, and of all requests, at once
+unfoldable pub requestsFor : PairKind → List ℕ → List ℕ → List ℕ
+requestsFor p q r =
+    placesIn (fixedOf (requestKind p) .size) (firstKey p) (fixedOf (requestKind p) .key .size) q (dataOf (requestKind p) q) r (dataOf (resultKind p) r)
+
+unfoldable pub resultsFor : PairKind → List ℕ → List ℕ → List ℕ
+resultsFor p q r =
+    placesIn (fixedOf (requestKind p) .size) (firstKey p) (fixedOf (requestKind p) .key .size) r (dataOf (resultKind p) r) q (dataOf (requestKind p) q)

@@ -7,24 +7,19 @@ use lib.ListN.{drop}
 use Rattle.laws.specs.Tabulate.{tabulate}
 use Rattle.layout.specs.declared.answers.Answer.{Answer}
 use Rattle.layout.specs.Answers.{accepted, refused, _then_}
-use Rattle.reader.specs.Records.{recordOf, dataOf}
+use Rattle.reader.specs.Records.{dataOf}
 use Rattle.reader.specs.Reading.{readAs}
-use Rattle.pair.specs.declared.kinds.PairKind.{PairKind}
-use Rattle.pair.specs.declared.kinds.PairNamed.{PairNamed}
-use Rattle.pair.specs.declared.kinds.PairNamed.the-variants.{Is, Unknown}
-use Rattle.pair.specs.declared.items.Compared.the-variants.{Headers}
-use Rattle.pair.specs.Kinds.{requestKind, resultKind, pairOf}
-use Rattle.pair.specs.Items.{comparedOf, itemsTell}
+use Rattle.terms.specs.declared.kinds.PairKind.{PairKind}
+use Rattle.terms.specs.declared.kinds.PairNamed.{PairNamed}
+use Rattle.terms.specs.declared.kinds.PairNamed.the-variants.{Is, Unknown}
+use Rattle.terms.specs.Kinds.{requestKind, resultKind, pairOf}
+use Rattle.terms.specs.Meeting.{headersTell}
 use Rattle.pair.specs.Amounts.{takenAt, notTakenAt}
 use Rattle.pair.specs.Results.{resultsTell}
 
 -- an answer about one side of the pair
 abbrev pub onSide : ℕ → Answer → Answer
 onSide side a = record { side = side; number = a .number; rec = a .rec; item = a .item; code = a .code }
-
--- 12: the headers differ
-unfoldable pub headersTell : PairKind → List ℕ → List ℕ → Answer
-headersTell p q r = itemsTell 12 0 (comparedOf p Headers) (recordOf (requestKind p) q 0) (recordOf (resultKind p) r 0)
 
 -- 8: the lent lists are too short
 unfoldable pub roomTells : Bool → Answer

@@ -5,18 +5,12 @@ use mathlib.Core.List.{List}
 use lib.Dec.{ltb}
 use Rattle.tables.specs.Kinds.{fixedOf}
 use Rattle.layout.specs.declared.answers.Answer.{Answer}
-use Rattle.layout.specs.Answers.{refusedAt, _then_, firstTold}
+use Rattle.layout.specs.Answers.{refusedAt, firstTold}
 use Rattle.reader.specs.Records.{recordOf, dataOf}
-use Rattle.pair.specs.declared.kinds.PairKind.{PairKind}
-use Rattle.pair.specs.declared.items.Compared.the-variants.{Records}
-use Rattle.pair.specs.Kinds.{requestKind, resultKind}
-use Rattle.pair.specs.Items.{comparedOf, itemsTell}
+use Rattle.terms.specs.declared.kinds.PairKind.{PairKind}
+use Rattle.terms.specs.Kinds.{requestKind, resultKind}
+use Rattle.terms.specs.Meeting.{meetsTell}
 use Rattle.pair.specs.Matching.{requestFor}
-use Rattle.pair.specs.Amounts.{amountsTell}
-
--- result record `rec` against its request: 13 at the first copied item that differs, before 14
-unfoldable pub meetsTell : PairKind → ℕ → List ℕ → List ℕ → Answer
-meetsTell p rec request result = itemsTell 13 rec (comparedOf p Records) request result then amountsTell p rec request result
 
 -- result j + 1: 13 at the key item where it has no request
 unfoldable pub resultTells : PairKind → List ℕ → List ℕ → ℕ → Answer

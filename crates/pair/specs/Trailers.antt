@@ -9,9 +9,9 @@ use Rattle.tables.specs.declared.kinds.Kind.the-variants.{EB13, EB21}
 use Rattle.tables.specs.declared.totals.Quantity.{Quantity}
 use Rattle.reader.specs.Records.{dataOf, trailerOf}
 use Rattle.reader.specs.Totals.{worthAt}
-use Rattle.pair.specs.declared.kinds.PairKind.{PairKind}
-use Rattle.pair.specs.declared.kinds.PairKind.the-variants.{Enrolment, Debit}
-use Rattle.pair.specs.Kinds.{resultKind}
+use Rattle.terms.specs.declared.kinds.PairKind.{PairKind}
+use Rattle.terms.specs.declared.kinds.PairKind.the-variants.{Enrolment, Debit}
+use Rattle.terms.specs.Kinds.{resultKind}
 use Rattle.pair.specs.Matching.{resultFor}
 
 -- what the result of request i + 1 adds to a quantity; nothing where it has no result

@@ -1,125 +1,50 @@
-// What a request asks, what its result says was not taken, and which amounts are possible.
+// What a request asks, what its result says was not taken, and what was taken.
 ghost use mathlib.Core.Path.{_≡_};
-ghost use Prim.Native.Nat.{_+_, _≤_, _<_, _^_};
-ghost use lib.ListN.{length, getD};
+ghost use Prim.Native.Nat.{_+_, _-_, _<_, _^_};
 ghost use Rattle.reader.specs.Records.{countOf};
-ghost use Rattle.pair.specs.Kinds.{requestKind, resultKind};
-ghost use Rattle.pair.specs.Amounts.{baseOf, possible, partOfOne, debitTells, amountsTell, askedAt, notTakenAt, takenAt};
-use crate::kinds;
-use crate::kinds::PairKind;
-use crate::matching;
-use layout::answers::Answer;
-use layout::items;
+ghost use Rattle.terms.specs.Kinds.{requestKind, asks};
+ghost use Rattle.pair.specs.Amounts.{askedAt, notTakenBy};
 use reader::records;
 use reader::totals;
-use tables::kinds::Fixed;
-use text::parts;
+use tables::totals::Quantity;
+use terms::kinds;
+use terms::kinds::PairKind;
 
-// The least that a part payment may take, for types "1" to "6"; type "1" takes none.
-const BASES: [u64; 6] = [0, 1000, 2000, 3000, 4000, 5000];
-
-// The base of a type; that of "0" is the least amount that may be asked.
-fn base(least: u64, debit_type: u8) -> u64
-    ensures { λ r. ⌜ r ≡ baseOf least «debit_type» ⌝ }
-{
-    if debit_type == b'0' {
-        return least;
-    }
-    if debit_type <= b'1' {
-        return 0;
-    }
-    if b'6' < debit_type {
-        return 0;
-    }
-    BASES[(debit_type - b'1') as usize]
-}
-
-// Whether u won of a can be what was not taken.
-fn possible(least: u64, debit_type: u8, mark: u8, a: u64, u: u64) -> bool
-    ensures { λ r. ⌜ r ≡ possible least «debit_type» mark a u ⌝ }
-{
-    if mark == b'N' {
-        return u == a;
-    }
-    if u < a {
-        return base(least, debit_type) <= a - u;
-    }
-    false
-}
-
-fn part_of_one(mark: u8, debit_type: u8) -> bool
-    ensures { λ r. ⌜ r ≡ partOfOne mark «debit_type» ⌝ }
-{
-    mark == b'P' && debit_type == b'1'
-}
-
-// "P" on type "1" first, then the amounts.
-fn debit_tells(least: u64, rec: u64, request: &[u8], result: &[u8]) -> Answer
-    requires { ⌜ 55 ≤ length (now request) ⌝ }
-    requires { ⌜ 55 ≤ length (now result) ⌝ }
-    ensures { λ r. ⌜ r ≡ debitTells least rec (now (request .entry)) (now (result .entry)) ⌝ }
-{
-    let mark = parts::byte(result, items::MARK);
-    let debit_type = parts::byte(request, items::TYPE);
-    if part_of_one(mark, debit_type) {
-        return Answer::refused_at(14, rec, 13, Answer::UNUSED);
-    }
-    if possible(
-        least,
-        debit_type,
-        mark,
-        items::amount(request),
-        items::amount(result),
-    ) {
-        return Answer::accepted();
-    }
-    Answer::refused_at(14, rec, 6, Answer::UNUSED)
-}
-
-// An enrolment has no amounts.
-pub(crate) fn amounts_tell(pair: PairKind, rec: u64, request: &[u8], result: &[u8]) -> Answer
-    requires { ⌜ 55 ≤ length (now request) ⌝ }
-    requires { ⌜ 55 ≤ length (now result) ⌝ }
-    ensures { λ r. ⌜ r ≡ amountsTell pair rec (now (request .entry)) (now (result .entry)) ⌝ }
+// What a request asks, and what its result says was not taken.
+fn asks(pair: PairKind) -> Quantity
+    ensures { λ r. ⌜ r ≡ asks pair ⌝ }
 {
     match pair {
-        PairKind::Enrolment => Answer::accepted(),
-        PairKind::Debit => debit_tells(Fixed::LEAST, rec, request, result),
+        PairKind::Enrolment => Quantity::Records,
+        PairKind::Debit => Quantity::Amounts,
     }
 }
 
 // What request i + 1 asks.
-pub(crate) fn asked_at(pair: PairKind, request: &[u8], i: usize) -> u64
+pub fn asked_at(pair: PairKind, request: &[u8], i: usize) -> u64
     requires { ⌜ i + 1 < countOf (requestKind pair) (now request) ⌝ }
     ensures { λ r. ⌜ r ≡ askedAt pair (now (request .entry)) i ⌝ }
     ensures { λ r. ⌜ r < 10 ^ 13 ⌝ }
 {
-    totals::worth_at(kinds::request_kind(pair), request, kinds::asks(pair), i)
+    totals::worth_at(kinds::request_kind(pair), request, asks(pair), i)
 }
 
-// What was not taken of request i + 1.
-pub(crate) fn not_taken_at(pair: PairKind, request: &[u8], result: &[u8], i: usize) -> u64
-    requires { ⌜ i + 1 < countOf (requestKind pair) (now request) ⌝ }
-    requires { ⌜ 2 ≤ countOf (resultKind pair) (now result) ⌝ }
-    ensures { λ r. ⌜ r ≡ notTakenAt pair (now (request .entry)) (now (result .entry)) i ⌝ }
+// What result j + 1 says was not taken; nothing where there is no such result.
+pub fn not_taken_by(pair: PairKind, result: &[u8], j: usize) -> u64
+    ensures { λ r. ⌜ r ≡ notTakenBy pair (now (result .entry)) j ⌝ }
     ensures { λ r. ⌜ r < 10 ^ 13 ⌝ }
 {
-    let j = matching::result_for(pair, request, result, i);
-    if j < records::count(kinds::result_kind(pair), result) - 2 {
-        return totals::worth_at(kinds::result_kind(pair), result, kinds::asks(pair), j);
+    let kind = kinds::result_kind(pair);
+    if j < records::data_count(kind, result) {
+        return totals::worth_at(kind, result, asks(pair), j);
     }
     0
 }
 
-// What was taken of it: the rest.
-pub(crate) fn taken_at(pair: PairKind, request: &[u8], result: &[u8], i: usize) -> u64
-    requires { ⌜ i + 1 < countOf (requestKind pair) (now request) ⌝ }
-    requires { ⌜ 2 ≤ countOf (resultKind pair) (now result) ⌝ }
-    ensures { λ r. ⌜ r ≡ takenAt pair (now (request .entry)) (now (result .entry)) i ⌝ }
-    ensures { λ r. ⌜ r < 10 ^ 13 ⌝ }
+// What was taken: the rest.
+pub fn rest(asked: u64, not_taken: u64) -> u64
+    ensures { λ r. ⌜ r ≡ asked - «not_taken» ⌝ }
 {
-    let asked = asked_at(pair, request, i);
-    let not_taken = not_taken_at(pair, request, result, i);
     if not_taken <= asked {
         return asked - not_taken;
     }

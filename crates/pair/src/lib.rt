@@ -1,11 +1,6 @@
-// A request meets its result: what was taken, what was not, and one request's outcome.
-mod amounts;
-pub mod cases;
-mod items;
-pub mod kinds;
+// A request meets its result: what was taken of each request, and what was not.
+pub mod amounts;
 mod lists;
-mod matching;
-pub mod outcomes;
+pub mod matching;
 pub mod pairing;
 mod results;
-pub mod sums;

@@ -1,67 +1,61 @@
 // Which request a result answers, and which result answers a request: by key, never by serial.
 ghost use mathlib.Core.Path.{_≡_};
-ghost use Prim.Native.Nat.{_+_, _≤_, _<_};
-ghost use lib.ListN.{length};
+ghost use Prim.Native.Nat.{_+_, _≤_};
+ghost use Rattle.tables.specs.Kinds.{limit};
 ghost use Rattle.reader.specs.Records.{countOf};
-ghost use Rattle.reader.specs.Keys.{keyAt};
-ghost use Rattle.tables.specs.Kinds.{fixedOf};
-ghost use Rattle.pair.specs.Kinds.{requestKind, resultKind};
-ghost use Rattle.pair.specs.Matching.{placeOf, requestFor, resultFor};
-use crate::kinds;
-use crate::kinds::PairKind;
+ghost use Rattle.terms.specs.Kinds.{requestKind, resultKind};
+ghost use Rattle.pair.specs.Matching.{firstKey, requestsFor, resultsFor};
+use keys::places;
 use reader::records;
 use tables::kinds::Fixed;
-use tables::kinds::Kind;
-use text::parts;
+use tables::kinds::LIMIT;
+use terms::kinds;
+use terms::kinds::PairKind;
 
-// The key of data record i + 1.
-fn key_at(kind: Kind, file: &[u8], i: usize) -> &[u8]
-    requires { ⌜ i + 1 < countOf kind (now file) ⌝ }
-    ensures { λ r. ⌜ now r ≡ keyAt kind (now (file .entry)) i ⌝ }
-    ensures { λ r. ⌜ length (now r) ≡ fixedOf kind .key .size ⌝ }
+// Where the first key of a file stands: both kinds of a pair have it at one place.
+fn first_key(pair: PairKind) -> usize
+    ensures { λ r. ⌜ r ≡ firstKey pair ⌝ }
 {
-    let key = Fixed::of(kind).key;
-    parts::part(records::record_of(kind, file, i + 1), key.start, key.size)
+    let fixed = Fixed::of(kinds::request_kind(pair));
+    fixed.size + fixed.key.start
 }
 
-// The first data record that has the key, counted from 0; n where there is none.
-fn place_of(kind: Kind, file: &[u8], key: &[u8]) -> usize
-    requires { ⌜ 2 ≤ countOf kind (now file) ⌝ }
-    ensures { λ r. ⌜ r ≡ placeOf kind (now (file .entry)) (now (key .entry)) ⌝ }
-{
-    let n = records::count(kind, file) - 2;
-    let mut i = 0;
-    while i < n {
-        if parts::same(key_at(kind, file, i), key) {
-            return i;
-        }
-        i += 1;
-    }
-    n
-}
-
-// The request of result j + 1.
-pub(crate) fn request_for(pair: PairKind, request: &[u8], result: &[u8], j: usize) -> usize
+// The request of each result.
+pub(crate) fn requests_for(pair: PairKind, request: &[u8], result: &[u8]) -> [usize; LIMIT]
     requires { ⌜ 2 ≤ countOf (requestKind pair) (now request) ⌝ }
-    requires { ⌜ j + 1 < countOf (resultKind pair) (now result) ⌝ }
-    ensures { λ r. ⌜ r ≡ requestFor pair (now (request .entry)) (now (result .entry)) j ⌝ }
+    requires { ⌜ countOf (requestKind pair) (now request) ≤ limit + 2 ⌝ }
+    requires { ⌜ 2 ≤ countOf (resultKind pair) (now result) ⌝ }
+    ensures { λ r. ⌜ r ≡ requestsFor pair (now (request .entry)) (now (result .entry)) ⌝ }
 {
-    place_of(
-        kinds::request_kind(pair),
+    let kind = kinds::request_kind(pair);
+    let fixed = Fixed::of(kind);
+    places::places(
         request,
-        key_at(kinds::result_kind(pair), result, j),
+        records::data_count(kind, request),
+        result,
+        records::data_count(kinds::result_kind(pair), result),
+        fixed.size,
+        first_key(pair),
+        fixed.key.size,
     )
 }
 
-// The result of request i + 1.
-pub(crate) fn result_for(pair: PairKind, request: &[u8], result: &[u8], i: usize) -> usize
-    requires { ⌜ i + 1 < countOf (requestKind pair) (now request) ⌝ }
+// The result of each request.
+pub fn results_for(pair: PairKind, request: &[u8], result: &[u8]) -> [usize; LIMIT]
+    requires { ⌜ 2 ≤ countOf (requestKind pair) (now request) ⌝ }
     requires { ⌜ 2 ≤ countOf (resultKind pair) (now result) ⌝ }
-    ensures { λ r. ⌜ r ≡ resultFor pair (now (request .entry)) (now (result .entry)) i ⌝ }
+    requires { ⌜ countOf (resultKind pair) (now result) ≤ limit + 2 ⌝ }
+    ensures { λ r. ⌜ r ≡ resultsFor pair (now (request .entry)) (now (result .entry)) ⌝ }
 {
-    place_of(
-        kinds::result_kind(pair),
+    let kind = kinds::request_kind(pair);
+    let fixed = Fixed::of(kind);
+    places::places(
         result,
-        key_at(kinds::request_kind(pair), request, i),
+        records::data_count(kinds::result_kind(pair), result),
+        request,
+        records::data_count(kind, request),
+        fixed.size,
+        first_key(pair),
+        fixed.key.size,
     )
 }

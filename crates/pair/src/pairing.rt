@@ -1,21 +1,20 @@
 // A request with its result: 1; the request's reading, the result's; 12; 8; then the result records in order.
 ghost use mathlib.Core.Path.{_≡_};
-ghost use Prim.Native.Nat.{_≤_};
 ghost use lib.ListN.{length};
-ghost use Rattle.reader.specs.Records.{countOf, dataOf};
-ghost use Rattle.pair.specs.Kinds.{requestKind, resultKind};
-ghost use Rattle.pair.specs.Pairing.{onSide, headersTell, listsFit, pairBy, pairAs, listAfter, pairTold, takenAfter, notTakenAfter};
+ghost use Rattle.reader.specs.Records.{dataOf};
+ghost use Rattle.terms.specs.Kinds.{requestKind};
+ghost use Rattle.pair.specs.Pairing.{onSide, listsFit, pairBy, pairAs, listAfter, pairTold, takenAfter, notTakenAfter};
 ghost use Rattle.pair.specs.Amounts.{takenAt, notTakenAt};
-use crate::items;
-use crate::items::Compared;
-use crate::kinds;
-use crate::kinds::PairKind;
-use crate::kinds::PairNamed;
 use crate::lists;
+use crate::matching;
 use crate::results;
 use layout::answers::Answer;
 use reader::reading;
 use reader::records;
+use terms::kinds;
+use terms::kinds::PairKind;
+use terms::kinds::PairNamed;
+use terms::meeting;
 
 fn on_side(side: u64, answer: Answer) -> Answer
     ensures { λ r. ⌜ r ≡ onSide side answer ⌝ }
@@ -27,21 +26,6 @@ fn on_side(side: u64, answer: Answer) -> Answer
         item: answer.item,
         code: answer.code,
     }
-}
-
-fn headers_tell(pair: PairKind, request: &[u8], result: &[u8]) -> Answer
-    requires { ⌜ 2 ≤ countOf (requestKind pair) (now request) ⌝ }
-    requires { ⌜ 2 ≤ countOf (resultKind pair) (now result) ⌝ }
-    ensures { λ r. ⌜ r ≡ headersTell pair (now (request .entry)) (now (result .entry)) ⌝ }
-{
-    items::items_tell(
-        12,
-        0,
-        pair,
-        Compared::Headers,
-        records::record_of(kinds::request_kind(pair), request, 0),
-        records::record_of(kinds::result_kind(pair), result, 0),
-    )
 }
 
 // Everything but the lists: `fits` says whether they are long enough.
@@ -56,12 +40,13 @@ pub fn pair_by(pair: PairKind, request: &[u8], result: &[u8], fits: bool) -> Ans
     if of_result.number != 0 {
         return on_side(2, of_result);
     }
-    let of_headers = headers_tell(pair, request, result);
+    let of_headers = meeting::headers_tell(pair, request, result);
     if of_headers.number != 0 {
         return of_headers;
     }
     if fits {
-        return results::results_tell(pair, request, result);
+        let requests = matching::requests_for(pair, request, result);
+        return results::results_tell(pair, request, result, &requests);
     }
     Answer::refused(8)
 }

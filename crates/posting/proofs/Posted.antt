@@ -13,11 +13,11 @@ use Rattle.layout.specs.declared.answers.Answer.{Answer}
 use Rattle.layout.specs.Answers.{_then_}
 use Rattle.layout.proofs.Told.{refuses-is, refuses-not, then-first, then-second, then-zero}
 use Rattle.reader.specs.Records.{dataOf}
-use Rattle.pair.specs.declared.kinds.PairKind.the-variants.{Debit}
+use Rattle.terms.specs.declared.kinds.PairKind.the-variants.{Debit}
 use Rattle.pair.specs.Amounts.{askedAt, takenAt, notTakenAt}
-use Rattle.pair.specs.Outcomes.{asksFor, outcomeAs}
+use Rattle.outcomes.specs.Outcomes.{asksFor, outcomeAs}
 use Rattle.pair.specs.Pairing.{pairBy}
-use Rattle.pair.specs.Sums.{sumsOf}
+use Rattle.outcomes.specs.Sums.{sumsOf}
 use Rattle.pair.proofs.Matched.{Paired, pair-known}
 use Rattle.pair.proofs.Money.{each-request}
 use Rattle.posting.specs.Lines.{refusalLine, requestLine}

@@ -7,10 +7,10 @@ use lib.ListN.{getD}
 use Rattle.laws.specs.Tabulate.{tabulate}
 use Rattle.text.specs.Numbers.{letterOf}
 use Rattle.layout.specs.declared.answers.Answer.{Answer}
-use Rattle.pair.specs.declared.cases.Outcome.{Outcome}
-use Rattle.pair.specs.declared.cases.Outcome.the-variants.{None, Whole, Part, Refused}
-use Rattle.pair.specs.declared.sums.Sums.{Sums}
-use Rattle.pair.specs.Outcomes.{fourOf}
+use Rattle.outcomes.specs.declared.cases.Outcome.{Outcome}
+use Rattle.outcomes.specs.declared.cases.Outcome.the-variants.{None, Whole, Part, Refused}
+use Rattle.outcomes.specs.declared.sums.Sums.{Sums}
+use Rattle.outcomes.specs.Outcomes.{fourOf}
 use Rattle.posting.specs.Decimal.{decimal}
 
 -- a number and what follows it: a space or a line end

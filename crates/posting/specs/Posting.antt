@@ -9,10 +9,10 @@ use Rattle.tables.specs.declared.kinds.Kind.the-variants.{EB21}
 use Rattle.layout.specs.declared.answers.Answer.{Answer}
 use Rattle.layout.specs.Answers.{refused, refuses, _then_, accepted}
 use Rattle.reader.specs.Records.{dataOf}
-use Rattle.pair.specs.declared.kinds.PairKind.the-variants.{Debit}
+use Rattle.terms.specs.declared.kinds.PairKind.the-variants.{Debit}
 use Rattle.pair.specs.Pairing.{onSide, pairBy}
-use Rattle.pair.specs.Outcomes.{outcomeAt}
-use Rattle.pair.specs.Sums.{sumsOf}
+use Rattle.outcomes.specs.Outcomes.{outcomeAt}
+use Rattle.outcomes.specs.Sums.{sumsOf}
 use Rattle.posting.specs.Lines.{refusalLine, acceptedLine, requestLine}
 
 -- the longest file that the program takes

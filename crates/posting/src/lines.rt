@@ -2,13 +2,13 @@
 ghost use mathlib.Core.Path.{_≡_};
 ghost use Prim.Native.Nat.{_+_, _≤_};
 ghost use lib.ListN.{length, getD};
-ghost use Rattle.pair.specs.Outcomes.{fourOf};
+ghost use Rattle.outcomes.specs.Outcomes.{fourOf};
 ghost use Rattle.posting.specs.Lines.{wordFor, refusalLine, acceptedLine, requestLine};
 ghost use Rattle.posting.specs.Puts.{putAt};
 use crate::puts;
 use layout::answers::Answer;
-use pair::cases::Outcome;
-use pair::sums::Sums;
+use outcomes::cases::Outcome;
+use outcomes::sums::Sums;
 
 // refused SIDE NUMBER RECORD ITEM CODE
 pub(crate) fn put_refusal(text: &mut [u8], at: usize, answer: Answer) -> usize

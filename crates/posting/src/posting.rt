@@ -1,23 +1,24 @@
 // The posting program's output for two files, put into a lent buffer.
 ghost use mathlib.Core.Path.{_≡_};
-ghost use mathlib.Core.List.{_++_};
 ghost use Prim.Native.Nat.{_+_, _*_, _≤_};
-ghost use lib.ListN.{length, drop};
+ghost use lib.ListN.{length};
 ghost use Rattle.laws.specs.Joined.{joined};
 ghost use Rattle.tables.specs.Kinds.{limit};
 ghost use Rattle.reader.specs.Records.{countOf, dataOf};
+ghost use Rattle.pair.specs.Matching.{resultsFor};
 ghost use Rattle.posting.specs.Posting.{sizeTells, postTells, lineAt, acceptedText, postText, postSize, postAfter};
 ghost use Rattle.posting.specs.Puts.{putAt};
 use crate::lines;
 use crate::puts;
 use layout::answers::Answer;
-use pair::kinds::PairKind;
-use pair::outcomes;
+use outcomes::asking;
+use outcomes::sums;
+use pair::matching;
 use pair::pairing;
-use pair::sums;
 use reader::records;
 use tables::kinds;
 use tables::kinds::Kind;
+use terms::kinds::PairKind;
 
 // The longest file that the program takes.
 const MOST: usize = 64_800;
@@ -57,10 +58,17 @@ fn post_tells(request: &[u8], result: &[u8]) -> Answer
 }
 
 // The line of each request, one after the other.
-fn put_requests(request: &[u8], result: &[u8], n: usize, text: &mut [u8], at: usize) -> usize
-    requires { ⌜ n + 2 ≤ countOf Kind.EB21 (now request) ⌝ }
-    requires { ⌜ 2 ≤ countOf Kind.EB22 (now result) ⌝ }
+fn put_requests(
+    request: &[u8],
+    result: &[u8],
+    results: &[usize],
+    n: usize,
+    text: &mut [u8],
+    at: usize,
+) -> usize
+    requires { ⌜ n ≡ dataOf Kind.EB21 (now request) ⌝ }
     requires { ⌜ n ≤ limit ⌝ }
+    requires { ⌜ now results ≡ resultsFor PairKind.Debit (now request) (now result) ⌝ }
     requires { ⌜ at + n * 80 ≤ length (now text) ⌝ }
     ensures { λ r. ⌜ r ≡ at + length (joined (lineAt (now (request .entry)) (now (result .entry))) n) ⌝ }
     ensures { λ _. ⌜ now (text .exit) ≡ putAt at (joined (lineAt (now (request .entry)) (now (result .entry))) n) (now (text .entry)) ⌝ }
@@ -69,7 +77,7 @@ fn put_requests(request: &[u8], result: &[u8], n: usize, text: &mut [u8], at: us
     let mut place = at;
     let mut i = 0;
     while i < n {
-        let outcome = outcomes::outcome_at(PairKind::Debit, request, result, i);
+        let outcome = asking::outcome_at(PairKind::Debit, request, result, i, results[i]);
         place = lines::put_request(text, place, (i + 1) as u64, outcome);
         i += 1;
     }
@@ -77,19 +85,18 @@ fn put_requests(request: &[u8], result: &[u8], n: usize, text: &mut [u8], at: us
 }
 
 // The totals, then the requests.
-fn put_all(request: &[u8], result: &[u8], text: &mut [u8]) -> usize
-    requires { ⌜ 2 ≤ countOf Kind.EB21 (now request) ⌝ }
+fn put_all(request: &[u8], result: &[u8], results: &[usize], text: &mut [u8]) -> usize
     requires { ⌜ countOf Kind.EB21 (now request) ≤ limit + 2 ⌝ }
-    requires { ⌜ 2 ≤ countOf Kind.EB22 (now result) ⌝ }
+    requires { ⌜ now results ≡ resultsFor PairKind.Debit (now request) (now result) ⌝ }
     requires { ⌜ 100 + limit * 80 ≤ length (now text) ⌝ }
     ensures { λ r. ⌜ r ≡ length (acceptedText (now (request .entry)) (now (result .entry))) ⌝ }
     ensures { λ _. ⌜ now (text .exit) ≡ putAt 0 (acceptedText (now (request .entry)) (now (result .entry))) (now (text .entry)) ⌝ }
     ensures { λ r. ⌜ r ≤ 100 + limit * 80 ⌝ }
 {
     let n = records::data_count(Kind::EB21, request);
-    let sums = sums::sums_of(PairKind::Debit, request, result);
+    let sums = sums::sums_of(PairKind::Debit, request, result, results);
     let at = lines::put_accepted(text, 0, n as u64, sums);
-    put_requests(request, result, n, text, at)
+    put_requests(request, result, results, n, text, at)
 }
 
 // The whole text at the front of a frame that is long enough for every text.
@@ -103,7 +110,8 @@ fn compose(request: &[u8], result: &[u8], frame: &mut [u8]) -> usize
     if answer.number != 0 {
         return lines::put_refusal(frame, 0, answer);
     }
-    put_all(request, result, frame)
+    let results = matching::results_for(PairKind::Debit, request, result);
+    put_all(request, result, &results, frame)
 }
 
 // Puts the text at the front of a lent buffer and says how long it is; 0 where the buffer is too short, and stays as it was.

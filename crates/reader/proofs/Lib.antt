@@ -1,6 +1,5 @@
 -- Laws about the definitions of specs/.
 pub mod Places
-pub mod Hashes
 pub mod Lengths
 pub mod Stages
 pub mod Exact

@@ -21,8 +21,9 @@ use Rattle.tables.specs.declared.totals.Total.{Total}
 use Rattle.tables.specs.Kinds.{fixedOf}
 use Rattle.tables.specs.Totals.{noTotal, enrolmentTotals, eb21Totals, eb22Totals, totalsOf}
 use Rattle.tables.proofs.Tiling.{size-least}
-use Rattle.reader.specs.Records.{recordAt, countOf}
-use Rattle.reader.specs.Keys.{keyIn, sharesIn, repeatsIn, keyAt, sharesKey, repeats}
+use Rattle.reader.specs.Records.{recordAt, countOf, dataOf}
+use Rattle.keys.specs.Keys.{keyIn, sharesIn, repeatsIn}
+use Rattle.reader.specs.Keys.{keyAt, sharesKey, repeats, repeatTold, keysTell}
 
 -- record i of a file lies inside it
 pub record-inside : (k : Kind) (s : List ℕ) (i : ℕ) → i < countOf k s → i * fixedOf k .size + fixedOf k .size ≤ length s
@@ -78,6 +79,14 @@ pub first-place :
     (k : Kind) (s : List ℕ) (n : ℕ) → n + 2 ≤ countOf k s →
     least (repeatsIn (fixedOf k .size) (fixedOf k .size + fixedOf k .key .start) (fixedOf k .key .size) s) n ≡ least (repeats k s) n
 first-place k s n h = least-same _ _ n (λ i l. repeat-place k s i (omega arith))
+
+-- what the first repeated place tells
+pub keys-by :
+    (k : Kind) (s : List ℕ) (i : ℕ) → 2 ≤ countOf k s →
+    i ≡ least (repeatsIn (fixedOf k .size) (fixedOf k .size + fixedOf k .key .start) (fixedOf k .key .size) s) (dataOf k s) →
+    repeatTold k (dataOf k s) i ≡ keysTell k s
+unfolding keysTell
+keys-by k s i h e = ap (repeatTold k (dataOf k s)) (e ∙ first-place k s (dataOf k s) (omega arith))
 
 pub key-fits :
     (k : Kind) (s : List ℕ) (n : ℕ) → n + 2 ≤ countOf k s → (i : ℕ) → i < n →

@@ -1,8 +1,8 @@
 // Reading a file: 1, 2, 3; then records and items in order; then totals; then keys.
 ghost use mathlib.Core.Path.{_≡_};
 ghost use Rattle.reader.specs.Reading.{isWhole, lengthTells, readAs, readOf};
-use crate::keys;
 use crate::records;
+use crate::repeats;
 use crate::totals;
 use layout::answers::Answer;
 use tables::kinds;
@@ -44,7 +44,7 @@ pub fn read_as(kind: Kind, file: &[u8]) -> Answer
     if of_totals.number != 0 {
         return of_totals;
     }
-    keys::keys_tell(kind, file)
+    repeats::keys_tell(kind, file)
 }
 
 // Reads any bytes as a file of any kind: `kind` is a kind's four letters as one number.

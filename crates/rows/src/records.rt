@@ -1,13 +1,17 @@
 // The rows of every record of every kind. A code is its four bytes as one number; "0000" where breaking the rule is refusal 5.
 ghost use mathlib.Core.Path.{_≡_};
-ghost use Prim.Native.Nat.{_<_};
-ghost use lib.ListN.{length, getD};
-ghost use Rattle.tables.specs.Rows.{blank};
-ghost use Rattle.tables.specs.Tables.{enrolmentHeader, debitHeader, eb13Data, eb14Data, eb21Data, eb22Data, eb13Trailer, eb14Trailer, eb21Trailer, eb22Trailer, rowsOf};
+ghost use lib.ListN.{length};
+ghost use Rattle.tables.specs.Tables.{enrolmentHeader, debitHeader, dataFront, eb13Data, eb14Data, eb21Data, eb22Data, eb13Trailer, eb14Trailer, eb21Trailer, eb22Trailer, rowsOf};
+ghost use Rattle.rows.specs.Laid.{laidOut};
 use tables::kinds::Kind;
 use tables::kinds::Role;
 use tables::rows::Class;
 use tables::rows::Row;
+
+// The most rows that a record has; shorter tables end in blank rows.
+pub const MOST: usize = 17;
+
+const BLANK: Row = Row(0, 0, 0, Class::Each(0, 0), 0);
 
 const MARK_H: Class = Class::Each(b'H', b'H');
 
@@ -55,7 +59,7 @@ const CA011: u64 = 0x4130_3131;
 
 const CA012: u64 = 0x4130_3132;
 
-const ENROLMENT_HEADER: [Row; 9] = [
+const ENROLMENT_HEADER: [Row; MOST] = [
     Row(1, 0, 1, MARK_H, C0081),
     Row(2, 1, 8, ZEROS, C0081),
     Row(3, 9, 10, Class::Institution, C0088),
@@ -65,9 +69,17 @@ const ENROLMENT_HEADER: [Row; 9] = [
     Row(5, 27, 6, Class::Date, C9998),
     Row(5, 27, 6, Class::NameDate, C0000),
     Row(6, 33, 87, SPACES, C0089),
+    BLANK,
+    BLANK,
+    BLANK,
+    BLANK,
+    BLANK,
+    BLANK,
+    BLANK,
+    BLANK,
 ];
 
-const DEBIT_HEADER: [Row; 11] = [
+const DEBIT_HEADER: [Row; MOST] = [
     Row(1, 0, 1, MARK_H, C0081),
     Row(2, 1, 8, ZEROS, C0081),
     Row(3, 9, 10, Class::Institution, C0088),
@@ -79,9 +91,22 @@ const DEBIT_HEADER: [Row; 11] = [
     Row(6, 33, 7, DIGITS, C0011),
     Row(7, 40, 16, Class::Filled, C0098),
     Row(8, 56, 94, SPACES, C0089),
+    BLANK,
+    BLANK,
+    BLANK,
+    BLANK,
+    BLANK,
+    BLANK,
 ];
 
-const EB13_DATA: [Row; 16] = [
+// Every data record begins with these.
+const DATA_FRONT: [Row; 3] = [
+    Row(1, 0, 1, MARK_R, C0081),
+    Row(2, 1, 8, Class::Serial, C0081),
+    Row(3, 9, 10, Class::AsHeader, C0000),
+];
+
+const EB13_DATA: [Row; MOST] = [
     Row(1, 0, 1, MARK_R, C0081),
     Row(2, 1, 8, Class::Serial, C0081),
     Row(3, 9, 10, Class::AsHeader, C0000),
@@ -98,9 +123,10 @@ const EB13_DATA: [Row; 16] = [
     Row(14, 97, 12, FREE, C0088),
     Row(15, 109, 1, SPACES, C0089),
     Row(16, 110, 10, SPACES, C0089),
+    BLANK,
 ];
 
-const EB14_DATA: [Row; 16] = [
+const EB14_DATA: [Row; MOST] = [
     Row(1, 0, 1, MARK_R, C0081),
     Row(2, 1, 8, Class::Serial, C0081),
     Row(3, 9, 10, Class::AsHeader, C0000),
@@ -117,9 +143,10 @@ const EB14_DATA: [Row; 16] = [
     Row(14, 97, 12, FREE, C0088),
     Row(15, 109, 1, SPACES, C0089),
     Row(16, 110, 10, SPACES, C0089),
+    BLANK,
 ];
 
-const EB21_DATA: [Row; 17] = [
+const EB21_DATA: [Row; MOST] = [
     Row(1, 0, 1, MARK_R, C0081),
     Row(2, 1, 8, Class::Serial, C0081),
     Row(3, 9, 10, Class::AsHeader, C0000),
@@ -139,7 +166,7 @@ const EB21_DATA: [Row; 17] = [
     Row(15, 129, 21, SPACES, C0089),
 ];
 
-const EB22_DATA: [Row; 16] = [
+const EB22_DATA: [Row; MOST] = [
     Row(1, 0, 1, MARK_R, C0081),
     Row(2, 1, 8, Class::Serial, C0081),
     Row(3, 9, 10, Class::AsHeader, C0000),
@@ -156,9 +183,10 @@ const EB22_DATA: [Row; 16] = [
     Row(13, 116, 1, TYPES, C0075),
     Row(14, 117, 12, FREE, C0088),
     Row(15, 129, 21, SPACES, C0089),
+    BLANK,
 ];
 
-const EB13_TRAILER: [Row; 11] = [
+const EB13_TRAILER: [Row; MOST] = [
     Row(1, 0, 1, MARK_T, C0081),
     Row(2, 1, 8, NINES, C0081),
     Row(3, 9, 10, Class::AsHeader, C0000),
@@ -170,9 +198,15 @@ const EB13_TRAILER: [Row; 11] = [
     Row(9, 59, 8, DIGITS, C0088),
     Row(10, 67, 43, SPACES, C0089),
     Row(11, 110, 10, SPACES, C0089),
+    BLANK,
+    BLANK,
+    BLANK,
+    BLANK,
+    BLANK,
+    BLANK,
 ];
 
-const EB14_TRAILER: [Row; 11] = [
+const EB14_TRAILER: [Row; MOST] = [
     Row(1, 0, 1, MARK_T, C0081),
     Row(2, 1, 8, NINES, C0081),
     Row(3, 9, 10, Class::AsHeader, C0000),
@@ -184,9 +218,15 @@ const EB14_TRAILER: [Row; 11] = [
     Row(9, 59, 8, DIGITS, C0088),
     Row(10, 67, 43, SPACES, C0089),
     Row(11, 110, 10, FREE, C0088),
+    BLANK,
+    BLANK,
+    BLANK,
+    BLANK,
+    BLANK,
+    BLANK,
 ];
 
-const EB21_TRAILER: [Row; 11] = [
+const EB21_TRAILER: [Row; MOST] = [
     Row(1, 0, 1, MARK_T, C0081),
     Row(2, 1, 8, NINES, C0081),
     Row(3, 9, 10, Class::AsHeader, C0000),
@@ -198,9 +238,15 @@ const EB21_TRAILER: [Row; 11] = [
     Row(9, 64, 13, ZEROS, C0090),
     Row(10, 77, 63, SPACES, C0089),
     Row(11, 140, 10, SPACES, C0089),
+    BLANK,
+    BLANK,
+    BLANK,
+    BLANK,
+    BLANK,
+    BLANK,
 ];
 
-const EB22_TRAILER: [Row; 15] = [
+const EB22_TRAILER: [Row; MOST] = [
     Row(1, 0, 1, MARK_T, C0081),
     Row(2, 1, 8, NINES, C0081),
     Row(3, 9, 10, Class::AsHeader, C0000),
@@ -216,76 +262,75 @@ const EB22_TRAILER: [Row; 15] = [
     Row(13, 100, 11, ZEROS, C0090),
     Row(14, 111, 29, SPACES, C0089),
     Row(15, 140, 10, FREE, C0088),
+    BLANK,
+    BLANK,
 ];
 
-fn enrolment_header(i: usize) -> Row
-    requires { ⌜ i < 9 ⌝ }
-    ensures { λ r. ⌜ r ≡ getD enrolmentHeader i blank ⌝ }
+fn enrolment_header() -> [Row; MOST]
+    ensures { λ r. ⌜ r ≡ laidOut enrolmentHeader ⌝ }
 {
-    ENROLMENT_HEADER[i]
+    ENROLMENT_HEADER
 }
 
-fn debit_header(i: usize) -> Row
-    requires { ⌜ i < 11 ⌝ }
-    ensures { λ r. ⌜ r ≡ getD debitHeader i blank ⌝ }
+fn debit_header() -> [Row; MOST]
+    ensures { λ r. ⌜ r ≡ laidOut debitHeader ⌝ }
 {
-    DEBIT_HEADER[i]
+    DEBIT_HEADER
 }
 
-fn eb13_data(i: usize) -> Row
-    requires { ⌜ i < 16 ⌝ }
-    ensures { λ r. ⌜ r ≡ getD eb13Data i blank ⌝ }
+// The rows of items 1 to 3 of every data record.
+pub fn data_front() -> [Row; 3]
+    ensures { λ r. ⌜ r ≡ dataFront ⌝ }
 {
-    EB13_DATA[i]
+    DATA_FRONT
 }
 
-fn eb14_data(i: usize) -> Row
-    requires { ⌜ i < 16 ⌝ }
-    ensures { λ r. ⌜ r ≡ getD eb14Data i blank ⌝ }
+fn eb13_data() -> [Row; MOST]
+    ensures { λ r. ⌜ r ≡ laidOut eb13Data ⌝ }
 {
-    EB14_DATA[i]
+    EB13_DATA
 }
 
-fn eb21_data(i: usize) -> Row
-    requires { ⌜ i < 17 ⌝ }
-    ensures { λ r. ⌜ r ≡ getD eb21Data i blank ⌝ }
+fn eb14_data() -> [Row; MOST]
+    ensures { λ r. ⌜ r ≡ laidOut eb14Data ⌝ }
 {
-    EB21_DATA[i]
+    EB14_DATA
 }
 
-fn eb22_data(i: usize) -> Row
-    requires { ⌜ i < 16 ⌝ }
-    ensures { λ r. ⌜ r ≡ getD eb22Data i blank ⌝ }
+fn eb21_data() -> [Row; MOST]
+    ensures { λ r. ⌜ r ≡ laidOut eb21Data ⌝ }
 {
-    EB22_DATA[i]
+    EB21_DATA
 }
 
-fn eb13_trailer(i: usize) -> Row
-    requires { ⌜ i < 11 ⌝ }
-    ensures { λ r. ⌜ r ≡ getD eb13Trailer i blank ⌝ }
+fn eb22_data() -> [Row; MOST]
+    ensures { λ r. ⌜ r ≡ laidOut eb22Data ⌝ }
 {
-    EB13_TRAILER[i]
+    EB22_DATA
 }
 
-fn eb14_trailer(i: usize) -> Row
-    requires { ⌜ i < 11 ⌝ }
-    ensures { λ r. ⌜ r ≡ getD eb14Trailer i blank ⌝ }
+fn eb13_trailer() -> [Row; MOST]
+    ensures { λ r. ⌜ r ≡ laidOut eb13Trailer ⌝ }
 {
-    EB14_TRAILER[i]
+    EB13_TRAILER
 }
 
-fn eb21_trailer(i: usize) -> Row
-    requires { ⌜ i < 11 ⌝ }
-    ensures { λ r. ⌜ r ≡ getD eb21Trailer i blank ⌝ }
+fn eb14_trailer() -> [Row; MOST]
+    ensures { λ r. ⌜ r ≡ laidOut eb14Trailer ⌝ }
 {
-    EB21_TRAILER[i]
+    EB14_TRAILER
 }
 
-fn eb22_trailer(i: usize) -> Row
-    requires { ⌜ i < 15 ⌝ }
-    ensures { λ r. ⌜ r ≡ getD eb22Trailer i blank ⌝ }
+fn eb21_trailer() -> [Row; MOST]
+    ensures { λ r. ⌜ r ≡ laidOut eb21Trailer ⌝ }
 {
-    EB22_TRAILER[i]
+    EB21_TRAILER
+}
+
+fn eb22_trailer() -> [Row; MOST]
+    ensures { λ r. ⌜ r ≡ laidOut eb22Trailer ⌝ }
+{
+    EB22_TRAILER
 }
 
 // How many rows the record has.
@@ -294,49 +339,48 @@ pub fn row_count(kind: Kind, role: Role) -> usize
 {
     match role {
         Role::Header => match kind {
-            Kind::EB13 => ENROLMENT_HEADER.len(),
-            Kind::EB14 => ENROLMENT_HEADER.len(),
-            Kind::EB21 => DEBIT_HEADER.len(),
-            Kind::EB22 => DEBIT_HEADER.len(),
+            Kind::EB13 => 9,
+            Kind::EB14 => 9,
+            Kind::EB21 => 11,
+            Kind::EB22 => 11,
         },
         Role::Data => match kind {
-            Kind::EB13 => EB13_DATA.len(),
-            Kind::EB14 => EB14_DATA.len(),
-            Kind::EB21 => EB21_DATA.len(),
-            Kind::EB22 => EB22_DATA.len(),
+            Kind::EB13 => 16,
+            Kind::EB14 => 16,
+            Kind::EB21 => 17,
+            Kind::EB22 => 16,
         },
         Role::Trailer => match kind {
-            Kind::EB13 => EB13_TRAILER.len(),
-            Kind::EB14 => EB14_TRAILER.len(),
-            Kind::EB21 => EB21_TRAILER.len(),
-            Kind::EB22 => EB22_TRAILER.len(),
+            Kind::EB13 => 11,
+            Kind::EB14 => 11,
+            Kind::EB21 => 11,
+            Kind::EB22 => 15,
         },
     }
 }
 
-// Row i of the record.
-pub fn row_at(kind: Kind, role: Role, i: usize) -> Row
-    requires { ⌜ i < length (rowsOf kind role) ⌝ }
-    ensures { λ r. ⌜ r ≡ getD (rowsOf kind role) i blank ⌝ }
+// The rows of the record, handed out once for all of them.
+pub fn rows_of(kind: Kind, role: Role) -> [Row; MOST]
+    ensures { λ r. ⌜ r ≡ laidOut (rowsOf kind role) ⌝ }
 {
     match role {
         Role::Header => match kind {
-            Kind::EB13 => enrolment_header(i),
-            Kind::EB14 => enrolment_header(i),
-            Kind::EB21 => debit_header(i),
-            Kind::EB22 => debit_header(i),
+            Kind::EB13 => enrolment_header(),
+            Kind::EB14 => enrolment_header(),
+            Kind::EB21 => debit_header(),
+            Kind::EB22 => debit_header(),
         },
         Role::Data => match kind {
-            Kind::EB13 => eb13_data(i),
-            Kind::EB14 => eb14_data(i),
-            Kind::EB21 => eb21_data(i),
-            Kind::EB22 => eb22_data(i),
+            Kind::EB13 => eb13_data(),
+            Kind::EB14 => eb14_data(),
+            Kind::EB21 => eb21_data(),
+            Kind::EB22 => eb22_data(),
         },
         Role::Trailer => match kind {
-            Kind::EB13 => eb13_trailer(i),
-            Kind::EB14 => eb14_trailer(i),
-            Kind::EB21 => eb21_trailer(i),
-            Kind::EB22 => eb22_trailer(i),
+            Kind::EB13 => eb13_trailer(),
+            Kind::EB14 => eb14_trailer(),
+            Kind::EB21 => eb21_trailer(),
+            Kind::EB22 => eb22_trailer(),
         },
     }
 }

@@ -1,2 +1,3 @@
 -- Laws about the tables.
 pub mod Tiling
+pub mod Counts

@@ -41,14 +41,6 @@ spaces = each 0x20 0x20
 unfoldable pub zeros : List ℕ → Bool
 zeros = each 0x30 0x30
 
--- free text: bytes hex 20 to 7E
-unfoldable pub freeText : List ℕ → Bool
-freeText = each 0x20 0x7E
-
--- passbook text: bytes hex 20 or above
-unfoldable pub passbookText : List ℕ → Bool
-passbookText = each 0x20 0xFF
-
 -- code text: digits and capitals, then only spaces
 unfoldable pub codeText : List ℕ → Bool
 codeText s = spaces (drop (front Code s) s)

@@ -21,14 +21,41 @@ use Rattle.reader.specs.Totals.{worth, worthAt, quantityOf}
 use Rattle.reader.proofs.Places.{size-pos}
 use Rattle.laws.specs.Tabulate.{tabulate}
 use Rattle.writer.specs.Records.{Head, headerBuilt, dataBuilt, bodyCount, builtWorth, builtQuantity, builtTotal, builtTotals, fileTotal, trailerBuilt}
-use Rattle.writer.specs.Files.{frontOf, fileOf}
+use Rattle.writer.specs.Files.{stored, frontOf, fileOf}
 use Rattle.writer.proofs.Lengths.{header-length, data-length, trailer-length}
 use Rattle.laws.proofs.Tabs.{tab-same}
-use Rattle.writer.proofs.Stores.{store-next, part-front, part-behind}
+use Rattle.writer.proofs.Stores.{Filled, data-start, data-next, store-next, part-front, part-behind}
 
 worth-same : (k : Kind) (s : List ℕ) (g : ℕ → List ℕ) (q : Quantity) (i : ℕ) → recordOf k s (i + 1) ≡ g i → worthAt k s q i ≡ worth q (g i)
 unfolding worthAt
 worth-same k s g q i e = ap (worth q) e
+
+-- a whole number of records
+pub count-whole : (k : Kind) (n : ℕ) (f : List ℕ) → (n + 2) * fixedOf k .size ≤ length f → countOf k (take ((n + 2) * fixedOf k .size) f) ≡ n + 2
+unfolding countOf
+count-whole k n f h = rw (length-take-le ((n + 2) * fixedOf k .size) f h) (mul-div-cancel (n + 2) (size-pos k))
+
+-- i data records behind the header that stands there
+abbrev pub filled : Kind → List ℕ → List ℕ → ℕ → List ℕ
+filled k bodies o i = Filled (fixedOf k .size) (dataBuilt k (take (fixedOf k .size) o) bodies) o i
+
+module _ (k : Kind) (bodies o : List ℕ) (long : fixedOf k .size ≤ length o) where
+  abbrev made : ℕ → List ℕ
+  made = dataBuilt k (take (fixedOf k .size) o) bodies
+
+  pub filled-start : o ≡ filled k bodies o 0
+  filled-start = data-start (fixedOf k .size) made (data-length k (take (fixedOf k .size) o) bodies) o long
+
+  -- the next one is made with that header too
+  pub filled-next :
+      (i : ℕ) (f₁ f₂ : List ℕ) → f₁ ≡ filled k bodies o i →
+      f₂ ≡ stored ((i + 1) * fixedOf k .size) (dataBuilt k (take (fixedOf k .size) f₁) bodies i) f₁ → f₂ ≡ filled k bodies o (i + 1)
+  filled-next i f₁ f₂ a b = b ∙ rw (a, header-stays) (data-next (fixedOf k .size) made (data-length k (take (fixedOf k .size) o) bodies) o long i)
+    where
+      header-stays : take (fixedOf k .size) (filled k bodies o i) ≡ take (fixedOf k .size) o
+      header-stays =
+          rw (append-assoc (take (fixedOf k .size) o) (joined made i) (drop ((i + 1) * fixedOf k .size) o))
+          (take-at (take (fixedOf k .size) o) (joined made i ++ drop ((i + 1) * fixedOf k .size) o) (fixedOf k .size) (length-take-le (fixedOf k .size) o long))
 
 module _ (k : Kind) (h : Head) (bodies o : List ℕ) (n : ℕ) (count : n ≡ bodyCount k bodies) (room : (n + 2) * fixedOf k .size ≤ length o) where
   abbrev w : ℕ
@@ -40,17 +67,18 @@ module _ (k : Kind) (h : Head) (bodies o : List ℕ) (n : ℕ) (count : n ≡ bo
   abbrev g : ℕ → List ℕ
   g = dataBuilt k H bodies
 
-  -- the header first
-  pub after-header : take 0 o ++ H ++ drop (0 + length H) o ≡ H ++ drop w o
+  -- the header first, which is found again there
+  after-header : stored 0 H o ≡ H ++ drop w o
   after-header = rw (zero-add, header-length k h)
 
+  header-back : take w (H ++ drop w o) ≡ H
+  header-back = take-at H (drop w o) w (header-length k h)
+
   -- then the data records
-  pub after-data :
-      take w (H ++ drop w o) ++ joined g n ++ drop ((n + 1) * w) (H ++ drop w o) ≡ frontOf k h bodies ++ drop ((n + 1) * w) o
+  after-data : H ++ joined g n ++ drop ((n + 1) * w) (H ++ drop w o) ≡ frontOf k h bodies ++ drop ((n + 1) * w) o
   unfolding frontOf
   after-data =
       rw (
-        take-at (headerBuilt k h) (drop (fixedOf k .size) o) (fixedOf k .size) (header-length k h),
         add-one,
         suc-mul,
         add-comm (n * fixedOf k .size) (fixedOf k .size),
@@ -61,6 +89,12 @@ module _ (k : Kind) (h : Head) (bodies o : List ℕ) (n : ℕ) (count : n ≡ bo
       drop-past : (x : List ℕ) (a b : ℕ) → length x ≡ a → drop (a + b) (x ++ drop a o) ≡ drop (a + b) o
       drop-past x a b e = rw (← e, drop-append-add, drop-drop)
 
+  front-back : take w (frontOf k h bodies ++ drop ((n + 1) * w) o) ≡ H
+  unfolding frontOf
+  front-back =
+      rw (append-assoc H (joined g (bodyCount k bodies)) (drop ((n + 1) * w) o))
+      (take-at H (joined g (bodyCount k bodies) ++ drop ((n + 1) * w) o) w (header-length k h))
+
   front-length : length (frontOf k h bodies) ≡ (n + 1) * w
   unfolding frontOf
   front-length =
@@ -68,7 +102,7 @@ module _ (k : Kind) (h : Head) (bodies o : List ℕ) (n : ℕ) (count : n ≡ bo
       rw (header-length k h, joined-length g w (data-length k H bodies) (bodyCount k bodies), ← count, add-one, suc-mul) (add-comm w (n * w))
 
   -- the file so far, as far as it will go
-  abbrev pub sofar : List ℕ
+  abbrev sofar : List ℕ
   sofar = take ((n + 2) * w) (frontOf k h bodies ++ drop ((n + 1) * w) o)
 
   whole : length (frontOf k h bodies ++ drop ((n + 1) * w) o) ≡ length o
@@ -77,12 +111,8 @@ module _ (k : Kind) (h : Head) (bodies o : List ℕ) (n : ℕ) (count : n ≡ bo
       two-more : (n + 2) * w ≡ (n + 1) * w + w
       two-more = rw (add-two, add-one) (suc-mul (suc n) w)
 
-  sofar-length : length sofar ≡ (n + 2) * w
-  sofar-length = length-take-le ((n + 2) * w) (frontOf k h bodies ++ drop ((n + 1) * w) o) (rw whole room)
-
-  pub sofar-count : countOf k sofar ≡ n + 2
-  unfolding countOf
-  sofar-count = rw sofar-length (mul-div-cancel (n + 2) (size-pos k))
+  sofar-count : countOf k sofar ≡ n + 2
+  sofar-count = count-whole k n (frontOf k h bodies ++ drop ((n + 1) * w) o) (rw whole room)
 
   -- its data records are those that were built
   sofar-record : (i : ℕ) → i < n → recordOf k sofar (i + 1) ≡ g i
@@ -103,39 +133,27 @@ module _ (k : Kind) (h : Head) (bodies o : List ℕ) (n : ℕ) (count : n ≡ bo
       same : (i : ℕ) → i < n → worthAt k sofar q i ≡ builtWorth k H bodies q i
       same i l = worth-same k sofar (dataBuilt k H bodies) q i (sofar-record i l)
 
-  pub sofar-totals : tabulate (fileTotal k sofar) 5 ≡ builtTotals k H bodies
+  sofar-totals : tabulate (fileTotal k sofar) 5 ≡ builtTotals k H bodies
   unfolding builtTotals fileTotal builtTotal
   sofar-totals = tab-same (fileTotal k sofar) (builtTotal k H bodies) 5 (λ t. rw sofar-quantity)
 
   -- the trailer last
-  pub after-trailer :
-      (t : List ℕ) → t ≡ trailerBuilt k H (builtTotals k H bodies) →
-      take ((n + 1) * w) (frontOf k h bodies ++ drop ((n + 1) * w) o) ++ t ++ drop ((n + 1) * w + length t) (frontOf k h bodies ++ drop ((n + 1) * w) o) ≡
-      fileOf k h bodies ++ drop ((n + 2) * w) o
+  after-trailer :
+      stored ((n + 1) * w) (trailerBuilt k H (builtTotals k H bodies)) (frontOf k h bodies ++ drop ((n + 1) * w) o) ≡ fileOf k h bodies ++ drop ((n + 2) * w) o
   unfolding fileOf
-  after-trailer t e =
-      store-next (frontOf k h bodies) t o ((n + 1) * w) front-length ∙
-      rw (e, trailer-length k H (builtTotals k H bodies), ← suc-mul (n + 1) w, ← add-one (n + 1), add-assoc)
+  after-trailer =
+      store-next (frontOf k h bodies) (trailerBuilt k H (builtTotals k H bodies)) o ((n + 1) * w) front-length ∙
+      rw (trailer-length k H (builtTotals k H bodies), ← suc-mul (n + 1) w, ← add-one (n + 1), add-assoc)
 
-  -- header and data together, from what each store leaves
-  pub front-put :
-      (hd f₁ f₂ : List ℕ) → hd ≡ H → f₁ ≡ take 0 o ++ hd ++ drop (0 + length hd) o →
-      f₂ ≡ take w f₁ ++ joined (dataBuilt k hd bodies) n ++ drop ((n + 1) * w) f₁ → f₂ ≡ frontOf k h bodies ++ drop ((n + 1) * w) o
-  front-put hd f₁ f₂ a b c = c ∙ rw (b, a, after-header) after-data
+  -- the whole file, from what each step leaves
+  module _ (f₁ f₂ f₃ sums : List ℕ) (first : f₁ ≡ stored 0 H o) (second : f₂ ≡ filled k bodies f₁ n) where
+    front-put : f₂ ≡ frontOf k h bodies ++ drop ((n + 1) * w) o
+    front-put = second ∙ rw (first, after-header, header-back) after-data
 
-  -- the sums of what stands then, and the trailer that they make
-  pub sums-put :
-      (f₂ : List ℕ) (sums : List ℕ) → f₂ ≡ frontOf k h bodies ++ drop ((n + 1) * w) o → sums ≡ tabulate (fileTotal k (take ((n + 2) * w) f₂)) 5 →
-      sums ≡ builtTotals k H bodies
-  sums-put f₂ sums a b = b ∙ rw a sofar-totals
-
-  pub count-put : (f₂ : List ℕ) → f₂ ≡ frontOf k h bodies ++ drop ((n + 1) * w) o → countOf k (take ((n + 2) * w) f₂) ≡ n + 2
-  count-put f₂ a = rw a sofar-count
-
-  pub file-put :
-      (f₂ f₃ t hd sums : List ℕ) → f₂ ≡ frontOf k h bodies ++ drop ((n + 1) * w) o → hd ≡ H → sums ≡ builtTotals k H bodies → t ≡ trailerBuilt k hd sums →
-      f₃ ≡ take ((n + 1) * w) f₂ ++ t ++ drop ((n + 1) * w + length t) f₂ → f₃ ≡ fileOf k h bodies ++ drop ((n + 2) * w) o
-  file-put f₂ f₃ t hd sums a b c d e = e ∙ rw a (after-trailer t (d ∙ rw (b, c)))
+    pub file-put :
+        sums ≡ tabulate (fileTotal k (take ((n + 2) * w) f₂)) 5 → f₃ ≡ stored ((n + 1) * w) (trailerBuilt k (take w f₂) sums) f₂ →
+        f₃ ≡ fileOf k h bodies ++ drop ((n + 2) * w) o
+    file-put s t = t ∙ rw (s, front-put, front-back, sofar-totals) after-trailer
 
 -- a file to be written has n + 2 records
 pub file-length : (k : Kind) (h : Head) (bodies : List ℕ) → length (fileOf k h bodies) ≡ (bodyCount k bodies + 2) * fixedOf k .size

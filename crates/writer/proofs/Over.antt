@@ -1,25 +1,29 @@
 -- The row over a place of a record: each place has one, and it is the row whose places these are.
 -- Assumes nothing.
-use Prim.Native.Nat.{ℕ, suc, _+_, _≤_, _<_, zero-le}
+use Prim.Native.Nat.{ℕ, suc, _+_, _-_, _≤_, _<_, zero-le}
 use mathlib.Core.Bool.{Bool, true, false, _&&_, _||_}
 use mathlib.Core.List.{List, [], _∷_}
-use mathlib.Core.Path.{_≡_, refl, ap}
+use mathlib.Core.Path.{_≡_, refl, ap, sym, _∙_}
 use mathlib.Core.Logic.{⊎-elim}
-use native.Mathlib.Nat.{le-add-right}
+use native.Mathlib.Nat.{le-refl, le-add-right}
 use native.Mathlib.Omega.{arith}
 use borrow.Author.Tests.{leb-true, ltb-true, le-leb, lt-ltb, le-ltb, ltb-false, eqb-true}
 use lib.Dec.{leb, ltb, eqb}
-use lib.ListN.{length, getD}
-use Rattle.laws.specs.Least.{least, none}
+use lib.ListN.{length, getD, List·getD-eq-default}
+use Rattle.laws.specs.Least.{further, least, none}
 use Rattle.laws.proofs.Bools.{and-left, and-right, or-cases, either}
-use Rattle.laws.proofs.Leasts.{least-is, least-none, least-some, least-stop, none-each}
+use Rattle.laws.proofs.Leasts.{least-is, least-none, least-some, least-same, least-stop, none-each}
 use Rattle.tables.specs.declared.kinds.Kind.{Kind}
+use Rattle.tables.specs.declared.kinds.Kind.the-variants.{EB13, EB14, EB21, EB22}
 use Rattle.tables.specs.declared.kinds.Role.{Role}
+use Rattle.tables.specs.declared.kinds.Role.the-variants.{Data}
 use Rattle.tables.specs.declared.rows.Row.{Row}
 use Rattle.tables.specs.Kinds.{fixedOf}
 use Rattle.tables.specs.Rows.{blank, next, tilesFrom, tiles}
-use Rattle.tables.specs.Tables.{rowsOf}
+use Rattle.tables.specs.Tables.{dataFront, enrolmentData, debitData, eb13Data, eb14Data, eb21Data, eb22Data, rowsOf}
 use Rattle.tables.proofs.Tiling.{rows-tile}
+use Rattle.rows.specs.Laid.{laidOut}
+use Rattle.rows.proofs.Laying.{row-of}
 use Rattle.writer.specs.Bytes.{overRow, over, rowOver}
 
 -- a row is over the places from its start to its end
@@ -113,3 +117,51 @@ starts-over rows i d t h =
     (least-stop (over rows j) i (length rows) below
     (least-none (over rows j) i (λ m l. over-past (getD rows m blank) j (omega (arith, ltb-false (getD rows i blank .1) (getD rows m blank .1 + getD rows m blank .2) (before m l)))))
     (over-if (getD rows i blank) j (le-add-right (getD rows i blank .1) d) (omega arith)))
+
+-- so it is wherever it stands between
+over-of :
+    (rows : List Row) (i j : ℕ) (r : Row) → starts rows i ≡ true → getD rows i blank ≡ r → r .1 ≤ j → j < r .1 + r .2 → rowOver rows j ≡ r
+over-of rows i j r t e a b =
+    ap (rowOver rows) place ∙ (starts-over rows i (j - getD rows i blank .1) t (rw e (omega arith)) ∙ e)
+  where
+    place : j ≡ getD rows i blank .1 + (j - getD rows i blank .1)
+    place = rw e (omega arith)
+
+-- the rows of items 1 to 3 are over their places in each kind
+pub front-first : (k : Kind) (j : ℕ) → j < 1 → getD dataFront 0 blank ≡ rowOver (rowsOf k Data) j
+unfolding starts endsPast none least further eb13Data eb14Data enrolmentData eb21Data eb22Data debitData dataFront
+front-first EB13 j h = sym (over-of (rowsOf EB13 Data) 0 j (getD dataFront 0 blank) refl refl (omega arith) h)
+front-first EB14 j h = sym (over-of (rowsOf EB14 Data) 0 j (getD dataFront 0 blank) refl refl (omega arith) h)
+front-first EB21 j h = sym (over-of (rowsOf EB21 Data) 0 j (getD dataFront 0 blank) refl refl (omega arith) h)
+front-first EB22 j h = sym (over-of (rowsOf EB22 Data) 0 j (getD dataFront 0 blank) refl refl (omega arith) h)
+
+pub front-second : (k : Kind) (j : ℕ) → 1 ≤ j → j < 9 → getD dataFront 1 blank ≡ rowOver (rowsOf k Data) j
+unfolding starts endsPast none least further eb13Data eb14Data enrolmentData eb21Data eb22Data debitData dataFront
+front-second EB13 j g h = sym (over-of (rowsOf EB13 Data) 1 j (getD dataFront 1 blank) refl refl g h)
+front-second EB14 j g h = sym (over-of (rowsOf EB14 Data) 1 j (getD dataFront 1 blank) refl refl g h)
+front-second EB21 j g h = sym (over-of (rowsOf EB21 Data) 1 j (getD dataFront 1 blank) refl refl g h)
+front-second EB22 j g h = sym (over-of (rowsOf EB22 Data) 1 j (getD dataFront 1 blank) refl refl g h)
+
+pub front-third : (k : Kind) (j : ℕ) → 9 ≤ j → j < 19 → getD dataFront 2 blank ≡ rowOver (rowsOf k Data) j
+unfolding starts endsPast none least further eb13Data eb14Data enrolmentData eb21Data eb22Data debitData dataFront
+front-third EB13 j g h = sym (over-of (rowsOf EB13 Data) 2 j (getD dataFront 2 blank) refl refl g h)
+front-third EB14 j g h = sym (over-of (rowsOf EB14 Data) 2 j (getD dataFront 2 blank) refl refl g h)
+front-third EB21 j g h = sym (over-of (rowsOf EB21 Data) 2 j (getD dataFront 2 blank) refl refl g h)
+front-third EB22 j g h = sym (over-of (rowsOf EB22 Data) 2 j (getD dataFront 2 blank) refl refl g h)
+
+-- a loop over a table that lays out the rows: no row before i is over place j so far
+module _ (k : Kind) (role : Role) (rows : List Row) (laid : rows ≡ laidOut (rowsOf k role)) (j : ℕ) where
+  same-rows : (i : ℕ) → i ≤ length (rowsOf k role) → least (over rows j) i ≡ i → least (over (rowsOf k role) j) i ≡ i
+  unfolding over
+  same-rows i h e = sym (least-same (over rows j) (over (rowsOf k role) j) i (λ m l. rw (row-of k role rows laid m (omega arith)))) ∙ e
+
+  pub laid-stop : (i : ℕ) → i < length (rowsOf k role) → least (over rows j) i ≡ i → overRow (getD rows i blank) j ≡ true → getD rows i blank ≡ rowOver (rowsOf k role) j
+  unfolding over rowOver
+  laid-stop i h e t =
+      let same = row-of k role rows laid i h in
+      rw (least-stop (over (rowsOf k role) j) i (length (rowsOf k role)) h (same-rows i (omega arith) e) (rw same at t)) same
+
+  pub laid-end : least (over rows j) (length (rowsOf k role)) ≡ length (rowsOf k role) → blank ≡ rowOver (rowsOf k role) j
+  unfolding rowOver
+  laid-end e =
+      rw (same-rows (length (rowsOf k role)) (le-refl _) e) (sym (List·getD-eq-default (rowsOf k role) blank (le-refl _)))

@@ -18,22 +18,22 @@ pub store-next :
 store-next f rec o at e = rw (take-at f (drop at o) at e, ← e, drop-append-add, drop-drop)
 
 -- data records of one width behind a header: i of them so far
-module _ (w : ℕ) (g : ℕ → List ℕ) (each : (i : ℕ) → length (g i) ≡ w) (o : List ℕ) (long : w ≤ length o) where
-  abbrev pub Filled : ℕ → List ℕ
-  Filled i = take w o ++ joined g i ++ drop ((i + 1) * w) o
+abbrev pub Filled : ℕ → (ℕ → List ℕ) → List ℕ → ℕ → List ℕ
+Filled w g o i = take w o ++ joined g i ++ drop ((i + 1) * w) o
 
+module _ (w : ℕ) (g : ℕ → List ℕ) (each : (i : ℕ) → length (g i) ≡ w) (o : List ℕ) (long : w ≤ length o) where
   front-length : (i : ℕ) → length (take w o ++ joined g i) ≡ (i + 1) * w
   front-length i =
       length-append (take w o) (joined g i) ∙ rw (length-take-le w o long, joined-length g w each i, add-one, suc-mul) (add-comm w (i * w))
 
-  pub data-start : o ≡ Filled 0
+  pub data-start : o ≡ Filled w g o 0
   data-start = sym (rw (joined-start g, one-mul-one, append-nil) (take-append-drop w o))
     where
       one-mul-one : (0 + 1) * w ≡ w
       one-mul-one = one-mul w
 
   pub data-next :
-      (i : ℕ) → take ((i + 1) * w) (Filled i) ++ g i ++ drop ((i + 1) * w + length (g i)) (Filled i) ≡ Filled (i + 1)
+      (i : ℕ) → take ((i + 1) * w) (Filled w g o i) ++ g i ++ drop ((i + 1) * w + length (g i)) (Filled w g o i) ≡ Filled w g o (i + 1)
   data-next i =
       store-next (take w o ++ joined g i) (g i) o ((i + 1) * w) (front-length i) ∙
       rw (append-assoc (take w o) (joined g i) (g i), ← joined-more g i, each i, ← suc-mul (i + 1) w, ← add-one (i + 1))

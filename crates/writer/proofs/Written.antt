@@ -59,18 +59,20 @@ module _ (k : Kind) (h : Head) (bodies room : List ℕ) where
     pub told-2 : fit ≡ false → a ≡ refused 2 → Told a room
     told-2 f e = told-bad 2 a (λ z. omega arith) e (write-2 (sym is ∙ f))
 
-    pub told-3 : fit ≡ true → limit < bodyCount k bodies → a ≡ refused 3 → Told a room
-    told-3 t l e = told-bad 3 a (λ z. omega arith) e (write-3 (sym is ∙ t) l)
+    -- of n bodies, for records of w bytes
+    module _ (n w : ℕ) (count : n ≡ bodyCount k bodies) (size : w ≡ fixedOf k .size) (t : fit ≡ true) where
+      pub told-3 : limit < n → a ≡ refused 3 → Told a room
+      told-3 l e = told-bad 3 a (λ z. omega arith) e (write-3 (sym is ∙ t) (rw count at l))
 
-    pub told-8 : fit ≡ true → bodyCount k bodies ≤ limit → length room < (bodyCount k bodies + 2) * fixedOf k .size → a ≡ refused 8 → Told a room
-    told-8 t l r e = told-bad 8 a (λ z. omega arith) e (write-8 (sym is ∙ t) l r)
+      pub told-8 : n ≤ limit → length room < (n + 2) * w → a ≡ refused 8 → Told a room
+      told-8 l r e = told-bad 8 a (λ z. omega arith) e (write-8 (sym is ∙ t) (rw count at l) (rw (count, size) at r))
 
-    module _ (t : fit ≡ true) (l : bodyCount k bodies ≤ limit) (r : (bodyCount k bodies + 2) * fixedOf k .size ≤ length room) (e : a ≡ readAs k (fileOf k h bodies)) where
-      told : a ≡ writeAs k h bodies (length room)
-      told = e ∙ sym (write-read (sym is ∙ t) l r)
+      module _ (l : n ≤ limit) (r : (n + 2) * w ≤ length room) (e : a ≡ readAs k (fileOf k h bodies)) where
+        told : a ≡ writeAs k h bodies (length room)
+        told = e ∙ sym (write-read (sym is ∙ t) (rw count at l) (rw (count, size) at r))
 
-      pub told-read : (a .number ≡ 0 → ⊥) → Told a room
-      told-read ne = (told, sym (after-bad (λ z. ne (ap (λ (x : Answer). x .number) told ∙ z))))
+        pub told-read : (a .number ≡ 0 → ⊥) → Told a room
+        told-read ne = (told, sym (after-bad (λ z. ne (ap (λ (x : Answer). x .number) told ∙ z))))
 
-      pub told-good : (after : List ℕ) → a .number ≡ 0 → after ≡ fileOf k h bodies ++ drop ((bodyCount k bodies + 2) * fixedOf k .size) room → Told a after
-      told-good after z s = (told, s ∙ sym (after-good (ap (λ (x : Answer). x .number) (sym told) ∙ z)))
+        pub told-good : (after : List ℕ) → a .number ≡ 0 → after ≡ fileOf k h bodies ++ drop ((n + 2) * fixedOf k .size) room → Told a after
+        told-good after z s = (told, rw count at s ∙ sym (after-good (ap (λ (x : Answer). x .number) (sym told) ∙ z)))

@@ -3,7 +3,7 @@ use Prim.Native.Nat.{ℕ, _+_, _*_, _%_}
 use mathlib.Core.Bool.{Bool, cond, _&&_}
 use mathlib.Core.List.{List, _++_}
 use lib.Dec.{leb, eqb}
-use lib.ListN.{length, drop}
+use lib.ListN.{length, take, drop}
 use Rattle.laws.specs.Joined.{joined}
 use Rattle.tables.specs.declared.kinds.Kind.{Kind}
 use Rattle.tables.specs.declared.kinds.Kind.the-variants.{EB13, EB14, EB21, EB22}
@@ -14,6 +14,10 @@ use Rattle.layout.specs.declared.answers.Answer.{Answer}
 use Rattle.layout.specs.Answers.{refused}
 use Rattle.reader.specs.Reading.{readAs}
 use Rattle.writer.specs.Records.{Head, headerBuilt, dataBuilt, bodyCount, builtTotals, trailerBuilt}
+
+-- a file with a record stored at a place
+abbrev pub stored : ℕ → List ℕ → List ℕ → List ℕ
+stored at rec file = take at file ++ rec ++ drop (at + length rec) file
 
 -- header and data records, one after the other
 unfoldable pub frontOf : Kind → Head → List ℕ → List ℕ

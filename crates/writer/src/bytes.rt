@@ -46,13 +46,30 @@ pub(crate) fn row_over(kind: Kind, role: Role, j: usize) -> Row
     ensures { λ r. ⌜ r .1 + r .2 < 1000 ⌝ }
 {
     let n = records::row_count(kind, role);
+    let rows = records::rows_of(kind, role);
     let mut i = 0;
     while i < n {
-        let row = records::row_at(kind, role, i);
+        let row = rows[i];
         if over(row, j) {
             return row;
         }
         i += 1;
     }
     Row(0, 0, 0, Class::Each(0, 0), 0)
+}
+
+// The row over place j of items 1 to 3, whatever the kind: no table of a whole record is laid out for it.
+pub(crate) fn front_row(j: usize) -> Row
+    requires { ⌜ j < 19 ⌝ }
+    ensures { λ r. ⌜ ((k : Kind) → r ≡ rowOver (rowsOf k Role.Data) j) ⌝ }
+    ensures { λ r. ⌜ r .2 < 1000 ⌝ }
+{
+    let rows = records::data_front();
+    if j < 1 {
+        return rows[0];
+    }
+    if j < 9 {
+        return rows[1];
+    }
+    rows[2]
 }

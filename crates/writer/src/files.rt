@@ -3,20 +3,21 @@ ghost use mathlib.Core.Path.{_≡_};
 ghost use mathlib.Core.List.{_++_};
 ghost use Prim.Native.Nat.{_+_, _*_, _≤_, _<_};
 ghost use lib.ListN.{length, take, drop};
-ghost use Rattle.tables.specs.Kinds.{limit};
+ghost use Rattle.tables.specs.Kinds.{fixedOf, limit};
 ghost use Rattle.reader.specs.Records.{countOf};
 ghost use Rattle.laws.specs.Joined.{joined};
-ghost use Rattle.writer.specs.Records.{headOf, bodyCount, dataBuilt, fileTotal};
-ghost use Rattle.writer.specs.Files.{fileOf};
+ghost use Rattle.writer.specs.Records.{headOf, bodyCount, headerBuilt, dataBuilt, fileTotal, trailerBuilt};
+ghost use Rattle.writer.specs.Files.{stored, fileOf};
 ghost use Rattle.laws.specs.Tabulate.{tabulate};
 use crate::records;
+use tables::kinds::Fixed;
 use tables::kinds::Kind;
 use tables::totals;
 
 // Stores a record at a place of the lent file.
 fn store(file: &mut [u8], at: usize, rec: &[u8])
     requires { ⌜ at + length (now rec) ≤ length (now file) ⌝ }
-    ensures { λ _. ⌜ now (file .exit) ≡ take at (now (file .entry)) ++ now (rec .entry) ++ drop (at + length (now (rec .entry))) (now (file .entry)) ⌝ }
+    ensures { λ _. ⌜ now (file .exit) ≡ stored at (now (rec .entry)) (now (file .entry)) ⌝ }
 {
     let mut i = 0;
     while i < rec.len() {
@@ -25,32 +26,53 @@ fn store(file: &mut [u8], at: usize, rec: &[u8])
     }
 }
 
-// Stores the data records behind the header.
-fn put_data_120(header: &[u8], bodies: &[u8], n: usize, file: &mut [u8])
-    requires { ⌜ n ≤ limit ⌝ }
-    requires { ⌜ length (now header) ≡ 120 ⌝ }
-    requires { ⌜ (n + 2) * 120 ≤ length (now file) ⌝ }
-    ensures { λ _. ⌜ now (file .exit) ≡ take 120 (now (file .entry)) ++ joined (dataBuilt Kind.EB13 (now (header .entry)) (now (bodies .entry))) n ++ drop ((n + 1) * 120) (now (file .entry)) ⌝ }
+// Bytes of a record.
+pub(crate) fn size_of(kind: Kind) -> usize
+    ensures { λ r. ⌜ r ≡ fixedOf kind .size ⌝ }
 {
-    let mut i = 0;
-    while i < n {
-        let rec = records::data_120(header, bodies, i);
-        store(file, (i + 1) * 120, &rec);
-        i += 1;
+    Fixed::of(kind).size
+}
+
+// Builds the header and stores it at the front.
+fn put_header(kind: Kind, date: &[u8], code: &[u8], item6: &[u8], item7: &[u8], file: &mut [u8])
+    requires { ⌜ fixedOf kind .size ≤ length (now file) ⌝ }
+    ensures { λ _. ⌜ now (file .exit) ≡ stored 0 (headerBuilt kind (headOf (now (date .entry)) (now (code .entry)) (now (item6 .entry)) (now (item7 .entry)))) (now (file .entry)) ⌝ }
+{
+    if size_of(kind) == Fixed::ENROLMENT_SIZE {
+        let rec = records::header_120(kind, date, code, item6, item7);
+        store(file, 0, &rec);
+    } else {
+        let rec = records::header_150(kind, date, code, item6, item7);
+        store(file, 0, &rec);
+    }
+}
+
+// Builds data record i + 1 by the header that stands in front, and stores it.
+fn put_record(kind: Kind, bodies: &[u8], i: usize, at: usize, file: &mut [u8])
+    requires { ⌜ i < limit ⌝ }
+    requires { ⌜ at + fixedOf kind .size ≤ length (now file) ⌝ }
+    ensures { λ _. ⌜ now (file .exit) ≡ stored at (dataBuilt kind (take (fixedOf kind .size) (now (file .entry))) (now (bodies .entry)) i) (now (file .entry)) ⌝ }
+{
+    let size = size_of(kind);
+    if size == Fixed::ENROLMENT_SIZE {
+        let rec = records::data_120(kind, &file[..size], bodies, i);
+        store(file, at, &rec);
+    } else {
+        let rec = records::data_150(kind, &file[..size], bodies, i);
+        store(file, at, &rec);
     }
 }
 
 // Stores the data records behind the header.
-fn put_data_150(header: &[u8], bodies: &[u8], n: usize, file: &mut [u8])
+fn put_data(kind: Kind, bodies: &[u8], n: usize, file: &mut [u8])
     requires { ⌜ n ≤ limit ⌝ }
-    requires { ⌜ length (now header) ≡ 150 ⌝ }
-    requires { ⌜ (n + 2) * 150 ≤ length (now file) ⌝ }
-    ensures { λ _. ⌜ now (file .exit) ≡ take 150 (now (file .entry)) ++ joined (dataBuilt Kind.EB21 (now (header .entry)) (now (bodies .entry))) n ++ drop ((n + 1) * 150) (now (file .entry)) ⌝ }
+    requires { ⌜ (n + 2) * fixedOf kind .size ≤ length (now file) ⌝ }
+    ensures { λ _. ⌜ now (file .exit) ≡ take (fixedOf kind .size) (now (file .entry)) ++ joined (dataBuilt kind (take (fixedOf kind .size) (now (file .entry))) (now (bodies .entry))) n ++ drop ((n + 1) * fixedOf kind .size) (now (file .entry)) ⌝ }
 {
+    let size = size_of(kind);
     let mut i = 0;
     while i < n {
-        let rec = records::data_150(header, bodies, i);
-        store(file, (i + 1) * 150, &rec);
+        put_record(kind, bodies, i, (i + 1) * size, file);
         i += 1;
     }
 }
@@ -82,32 +104,24 @@ fn sums_of(kind: Kind, file: &[u8]) -> [u64; 5]
     sums
 }
 
-// Stores a whole file: header, data records, trailer.
-pub(crate) fn put_120(
-    date: &[u8],
-    code: &[u8],
-    item6: &[u8],
-    item7: &[u8],
-    bodies: &[u8],
-    n: usize,
-    file: &mut [u8],
-)
-    requires { ⌜ n ≡ bodyCount Kind.EB13 (now bodies) ⌝ }
-    requires { ⌜ n ≤ limit ⌝ }
-    requires { ⌜ (n + 2) * 120 ≤ length (now file) ⌝ }
-    ensures { λ _. ⌜ now (file .exit) ≡ fileOf Kind.EB13 (headOf (now (date .entry)) (now (code .entry)) (now (item6 .entry)) (now (item7 .entry))) (now (bodies .entry)) ++ drop ((n + 2) * 120) (now (file .entry)) ⌝ }
+// Builds the trailer by the header that stands in front, and stores it.
+fn put_trailer(kind: Kind, sums: [u64; 5], at: usize, file: &mut [u8])
+    requires { ⌜ at + fixedOf kind .size ≤ length (now file) ⌝ }
+    ensures { λ _. ⌜ now (file .exit) ≡ stored at (trailerBuilt kind (take (fixedOf kind .size) (now (file .entry))) sums) (now (file .entry)) ⌝ }
 {
-    let header = records::header_120(date, code, item6, item7);
-    store(file, 0, &header);
-    put_data_120(&header, bodies, n, file);
-    let whole = (n + 2) * 120;
-    let sums = sums_of(Kind::EB13, &file[..whole]);
-    let trailer = records::trailer_120(&header, sums);
-    store(file, (n + 1) * 120, &trailer);
+    let size = size_of(kind);
+    if size == Fixed::ENROLMENT_SIZE {
+        let rec = records::trailer_120(kind, &file[..size], sums);
+        store(file, at, &rec);
+    } else {
+        let rec = records::trailer_150(kind, &file[..size], sums);
+        store(file, at, &rec);
+    }
 }
 
 // Stores a whole file: header, data records, trailer.
-pub(crate) fn put_150(
+pub(crate) fn put(
+    kind: Kind,
     date: &[u8],
     code: &[u8],
     item6: &[u8],
@@ -116,16 +130,15 @@ pub(crate) fn put_150(
     n: usize,
     file: &mut [u8],
 )
-    requires { ⌜ n ≡ bodyCount Kind.EB21 (now bodies) ⌝ }
+    requires { ⌜ n ≡ bodyCount kind (now bodies) ⌝ }
     requires { ⌜ n ≤ limit ⌝ }
-    requires { ⌜ (n + 2) * 150 ≤ length (now file) ⌝ }
-    ensures { λ _. ⌜ now (file .exit) ≡ fileOf Kind.EB21 (headOf (now (date .entry)) (now (code .entry)) (now (item6 .entry)) (now (item7 .entry))) (now (bodies .entry)) ++ drop ((n + 2) * 150) (now (file .entry)) ⌝ }
+    requires { ⌜ (n + 2) * fixedOf kind .size ≤ length (now file) ⌝ }
+    ensures { λ _. ⌜ now (file .exit) ≡ fileOf kind (headOf (now (date .entry)) (now (code .entry)) (now (item6 .entry)) (now (item7 .entry))) (now (bodies .entry)) ++ drop ((n + 2) * fixedOf kind .size) (now (file .entry)) ⌝ }
 {
-    let header = records::header_150(date, code, item6, item7);
-    store(file, 0, &header);
-    put_data_150(&header, bodies, n, file);
-    let whole = (n + 2) * 150;
-    let sums = sums_of(Kind::EB21, &file[..whole]);
-    let trailer = records::trailer_150(&header, sums);
-    store(file, (n + 1) * 150, &trailer);
+    put_header(kind, date, code, item6, item7, file);
+    put_data(kind, bodies, n, file);
+    let size = size_of(kind);
+    let whole = (n + 2) * size;
+    let sums = sums_of(kind, &file[..whole]);
+    put_trailer(kind, sums, (n + 1) * size, file);
 }

@@ -2,6 +2,7 @@
 ghost use mathlib.Core.Path.{_≡_};
 ghost use Prim.Native.Nat.{_+_, _-_, _<_};
 ghost use lib.ListN.{getD};
+ghost use Rattle.tables.specs.Kinds.{fixedOf};
 ghost use Rattle.tables.specs.Tables.{rowsOf};
 ghost use Rattle.writer.specs.Bytes.{rowOver};
 ghost use Rattle.writer.specs.Records.{headOf, givenItem, headerByte, frontFill, dataByte, dataBuilt, totalFor, trailerByte, headerBuilt, trailerBuilt};
@@ -63,15 +64,17 @@ fn data_byte(kind: Kind, header: &[u8], bodies: &[u8], i: usize, j: usize) -> u8
     ensures { λ r. ⌜ r ≡ dataByte kind (now (header .entry)) (now (bodies .entry)) i j ⌝ }
 {
     if j < Fixed::FRONT {
-        return front_byte(kind, header, (i + 1) as u64, j);
+        return front_byte(header, (i + 1) as u64, j);
     }
     parts::byte(bodies, i * Fixed::of(kind).body + (j - Fixed::FRONT))
 }
 
-fn front_byte(kind: Kind, header: &[u8], n: u64, j: usize) -> u8
-    ensures { λ r. ⌜ r ≡ frontFill (rowOver (rowsOf kind Role.Data) j) (now (header .entry)) n j ⌝ }
+// Byte j of items 1 to 3 of data record n, whatever the kind.
+fn front_byte(header: &[u8], n: u64, j: usize) -> u8
+    requires { ⌜ j < 19 ⌝ }
+    ensures { λ r. ⌜ ((k : Kind) → r ≡ frontFill (rowOver (rowsOf k Role.Data) j) (now (header .entry)) n j) ⌝ }
 {
-    let row = bytes::row_over(kind, Role::Data, j);
+    let row = bytes::front_row(j);
     let digit = numbers::digit_at(n, row.2, past(row.1, j));
     let class = row.3;
     bytes::fill(class, 0, 0, digit, parts::byte(header, j))
@@ -106,80 +109,98 @@ fn trailer_byte(kind: Kind, header: &[u8], sums: [u64; 5], j: usize) -> u8
 }
 
 // The header as its own 120 bytes.
-pub(crate) fn header_120(date: &[u8], code: &[u8], item6: &[u8], item7: &[u8]) -> [u8; 120]
-    ensures { λ r. ⌜ r ≡ headerBuilt Kind.EB13 (headOf (now (date .entry)) (now (code .entry)) (now (item6 .entry)) (now (item7 .entry))) ⌝ }
+pub(crate) fn header_120(
+    kind: Kind,
+    date: &[u8],
+    code: &[u8],
+    item6: &[u8],
+    item7: &[u8],
+) -> [u8; 120]
+    requires { ⌜ fixedOf kind .size ≡ 120 ⌝ }
+    ensures { λ r. ⌜ r ≡ headerBuilt kind (headOf (now (date .entry)) (now (code .entry)) (now (item6 .entry)) (now (item7 .entry))) ⌝ }
 {
     let mut rec = [0u8; 120];
     let mut j = 0;
     while j < 120 {
-        rec[j] = header_byte(Kind::EB13, date, code, item6, item7, j);
+        rec[j] = header_byte(kind, date, code, item6, item7, j);
         j += 1;
     }
     rec
 }
 
 // Data record i + 1 as its own 120 bytes.
-pub(crate) fn data_120(header: &[u8], bodies: &[u8], i: usize) -> [u8; 120]
+pub(crate) fn data_120(kind: Kind, header: &[u8], bodies: &[u8], i: usize) -> [u8; 120]
+    requires { ⌜ fixedOf kind .size ≡ 120 ⌝ }
     requires { ⌜ i < 1000000 ⌝ }
-    ensures { λ r. ⌜ r ≡ dataBuilt Kind.EB13 (now (header .entry)) (now (bodies .entry)) i ⌝ }
+    ensures { λ r. ⌜ r ≡ dataBuilt kind (now (header .entry)) (now (bodies .entry)) i ⌝ }
 {
     let mut rec = [0u8; 120];
     let mut j = 0;
     while j < 120 {
-        rec[j] = data_byte(Kind::EB13, header, bodies, i, j);
+        rec[j] = data_byte(kind, header, bodies, i, j);
         j += 1;
     }
     rec
 }
 
 // The trailer as its own 120 bytes.
-pub(crate) fn trailer_120(header: &[u8], sums: [u64; 5]) -> [u8; 120]
-    ensures { λ r. ⌜ r ≡ trailerBuilt Kind.EB13 (now (header .entry)) sums ⌝ }
+pub(crate) fn trailer_120(kind: Kind, header: &[u8], sums: [u64; 5]) -> [u8; 120]
+    requires { ⌜ fixedOf kind .size ≡ 120 ⌝ }
+    ensures { λ r. ⌜ r ≡ trailerBuilt kind (now (header .entry)) sums ⌝ }
 {
     let mut rec = [0u8; 120];
     let mut j = 0;
     while j < 120 {
-        rec[j] = trailer_byte(Kind::EB13, header, sums, j);
+        rec[j] = trailer_byte(kind, header, sums, j);
         j += 1;
     }
     rec
 }
 
 // The header as its own 150 bytes.
-pub(crate) fn header_150(date: &[u8], code: &[u8], item6: &[u8], item7: &[u8]) -> [u8; 150]
-    ensures { λ r. ⌜ r ≡ headerBuilt Kind.EB21 (headOf (now (date .entry)) (now (code .entry)) (now (item6 .entry)) (now (item7 .entry))) ⌝ }
+pub(crate) fn header_150(
+    kind: Kind,
+    date: &[u8],
+    code: &[u8],
+    item6: &[u8],
+    item7: &[u8],
+) -> [u8; 150]
+    requires { ⌜ fixedOf kind .size ≡ 150 ⌝ }
+    ensures { λ r. ⌜ r ≡ headerBuilt kind (headOf (now (date .entry)) (now (code .entry)) (now (item6 .entry)) (now (item7 .entry))) ⌝ }
 {
     let mut rec = [0u8; 150];
     let mut j = 0;
     while j < 150 {
-        rec[j] = header_byte(Kind::EB21, date, code, item6, item7, j);
+        rec[j] = header_byte(kind, date, code, item6, item7, j);
         j += 1;
     }
     rec
 }
 
 // Data record i + 1 as its own 150 bytes.
-pub(crate) fn data_150(header: &[u8], bodies: &[u8], i: usize) -> [u8; 150]
+pub(crate) fn data_150(kind: Kind, header: &[u8], bodies: &[u8], i: usize) -> [u8; 150]
+    requires { ⌜ fixedOf kind .size ≡ 150 ⌝ }
     requires { ⌜ i < 1000000 ⌝ }
-    ensures { λ r. ⌜ r ≡ dataBuilt Kind.EB21 (now (header .entry)) (now (bodies .entry)) i ⌝ }
+    ensures { λ r. ⌜ r ≡ dataBuilt kind (now (header .entry)) (now (bodies .entry)) i ⌝ }
 {
     let mut rec = [0u8; 150];
     let mut j = 0;
     while j < 150 {
-        rec[j] = data_byte(Kind::EB21, header, bodies, i, j);
+        rec[j] = data_byte(kind, header, bodies, i, j);
         j += 1;
     }
     rec
 }
 
 // The trailer as its own 150 bytes.
-pub(crate) fn trailer_150(header: &[u8], sums: [u64; 5]) -> [u8; 150]
-    ensures { λ r. ⌜ r ≡ trailerBuilt Kind.EB21 (now (header .entry)) sums ⌝ }
+pub(crate) fn trailer_150(kind: Kind, header: &[u8], sums: [u64; 5]) -> [u8; 150]
+    requires { ⌜ fixedOf kind .size ≡ 150 ⌝ }
+    ensures { λ r. ⌜ r ≡ trailerBuilt kind (now (header .entry)) sums ⌝ }
 {
     let mut rec = [0u8; 150];
     let mut j = 0;
     while j < 150 {
-        rec[j] = trailer_byte(Kind::EB21, header, sums, j);
+        rec[j] = trailer_byte(kind, header, sums, j);
         j += 1;
     }
     rec

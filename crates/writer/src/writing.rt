@@ -5,7 +5,7 @@ ghost use lib.ListN.{length};
 ghost use Rattle.tables.specs.Kinds.{limit};
 ghost use Rattle.reader.specs.Reading.{readAs};
 ghost use Rattle.writer.specs.Records.{headOf, bodyCount};
-ghost use Rattle.writer.specs.Files.{fileOf, partsFit, writeAs, afterAs, writeOf, roomAfter};
+ghost use Rattle.writer.specs.Files.{fileOf, partsFit, size6, size7, writeAs, afterAs, writeOf, roomAfter};
 use crate::files;
 use layout::answers::Answer;
 use reader::reading;
@@ -13,10 +13,8 @@ use tables::kinds;
 use tables::kinds::Fixed;
 use tables::kinds::Kind;
 
-// The longest files.
-const FRAME_120: usize = (kinds::LIMIT + 2) * 120;
-
-const FRAME_150: usize = (kinds::LIMIT + 2) * 150;
+// The longest file.
+const FRAME: usize = (kinds::LIMIT + 2) * Fixed::DEBIT_SIZE;
 
 // Every part is as long as its item, and the bodies are whole.
 fn parts_fit(
@@ -44,8 +42,15 @@ fn parts_fit(
     item7.len() == size7 && bodies.len() % body == 0
 }
 
+fn body_count(kind: Kind, bodies: &[u8]) -> usize
+    ensures { λ r. ⌜ r ≡ bodyCount kind (now (bodies .entry)) ⌝ }
+{
+    bodies.len() / Fixed::of(kind).body
+}
+
 // What reading the file to be written says, with the file made in a frame of its own.
-fn judge_120(
+fn judge(
+    kind: Kind,
     date: &[u8],
     code: &[u8],
     item6: &[u8],
@@ -53,18 +58,21 @@ fn judge_120(
     bodies: &[u8],
     n: usize,
 ) -> Answer
-    requires { ⌜ n ≡ bodyCount Kind.EB13 (now bodies) ⌝ }
+    requires { ⌜ n ≡ bodyCount kind (now bodies) ⌝ }
     requires { ⌜ n ≤ limit ⌝ }
-    ensures { λ r. ⌜ r ≡ readAs Kind.EB13 (fileOf Kind.EB13 (headOf (now (date .entry)) (now (code .entry)) (now (item6 .entry)) (now (item7 .entry))) (now (bodies .entry))) ⌝ }
+    ensures { λ r. ⌜ r ≡ readAs kind (fileOf kind (headOf (now (date .entry)) (now (code .entry)) (now (item6 .entry)) (now (item7 .entry))) (now (bodies .entry))) ⌝ }
 {
-    let mut frame = [0u8; FRAME_120];
-    files::put_120(date, code, item6, item7, bodies, n, &mut frame);
-    let whole = (n + 2) * 120;
-    reading::read(Fixed::EB13, &frame[..whole])
+    let mut frame = [0u8; FRAME];
+    files::put(kind, date, code, item6, item7, bodies, n, &mut frame);
+    let whole = (n + 2) * files::size_of(kind);
+    reading::read_as(kind, &frame[..whole])
 }
 
-// Decides first, then stores.
-fn write_120(
+// Decides first, then stores. Items 6 and 7 of the header are `long6` and `long7` bytes long.
+fn write_as(
+    kind: Kind,
+    long6: usize,
+    long7: usize,
     date: &[u8],
     code: &[u8],
     item6: &[u8],
@@ -72,68 +80,23 @@ fn write_120(
     bodies: &[u8],
     room: &mut [u8],
 ) -> Answer
-    ensures { λ r. ⌜ r ≡ writeAs Kind.EB13 (headOf (now (date .entry)) (now (code .entry)) (now (item6 .entry)) (now (item7 .entry))) (now (bodies .entry)) (length (now (room .entry))) ⌝ }
-    ensures { λ _. ⌜ now (room .exit) ≡ afterAs Kind.EB13 (headOf (now (date .entry)) (now (code .entry)) (now (item6 .entry)) (now (item7 .entry))) (now (bodies .entry)) (now (room .entry)) ⌝ }
+    requires { ⌜ long6 ≡ size6 kind ⌝ }
+    requires { ⌜ long7 ≡ size7 kind ⌝ }
+    ensures { λ r. ⌜ r ≡ writeAs kind (headOf (now (date .entry)) (now (code .entry)) (now (item6 .entry)) (now (item7 .entry))) (now (bodies .entry)) (length (now (room .entry))) ⌝ }
+    ensures { λ _. ⌜ now (room .exit) ≡ afterAs kind (headOf (now (date .entry)) (now (code .entry)) (now (item6 .entry)) (now (item7 .entry))) (now (bodies .entry)) (now (room .entry)) ⌝ }
 {
-    if parts_fit(date, code, item6, item7, bodies, 0, 0, 101) {
-        let n = bodies.len() / 101;
+    let body = Fixed::of(kind).body;
+    if parts_fit(date, code, item6, item7, bodies, long6, long7, body) {
+        let n = body_count(kind, bodies);
         if kinds::LIMIT < n {
             return Answer::refused(3);
         }
-        if room.len() < (n + 2) * 120 {
+        if room.len() < (n + 2) * files::size_of(kind) {
             return Answer::refused(8);
         }
-        let answer = judge_120(date, code, item6, item7, bodies, n);
+        let answer = judge(kind, date, code, item6, item7, bodies, n);
         if answer.number == 0 {
-            files::put_120(date, code, item6, item7, bodies, n, room);
-        }
-        return answer;
-    }
-    Answer::refused(2)
-}
-
-// What reading the file to be written says, with the file made in a frame of its own.
-fn judge_150(
-    date: &[u8],
-    code: &[u8],
-    item6: &[u8],
-    item7: &[u8],
-    bodies: &[u8],
-    n: usize,
-) -> Answer
-    requires { ⌜ n ≡ bodyCount Kind.EB21 (now bodies) ⌝ }
-    requires { ⌜ n ≤ limit ⌝ }
-    ensures { λ r. ⌜ r ≡ readAs Kind.EB21 (fileOf Kind.EB21 (headOf (now (date .entry)) (now (code .entry)) (now (item6 .entry)) (now (item7 .entry))) (now (bodies .entry))) ⌝ }
-{
-    let mut frame = [0u8; FRAME_150];
-    files::put_150(date, code, item6, item7, bodies, n, &mut frame);
-    let whole = (n + 2) * 150;
-    reading::read(Fixed::EB21, &frame[..whole])
-}
-
-// Decides first, then stores.
-fn write_150(
-    date: &[u8],
-    code: &[u8],
-    item6: &[u8],
-    item7: &[u8],
-    bodies: &[u8],
-    room: &mut [u8],
-) -> Answer
-    ensures { λ r. ⌜ r ≡ writeAs Kind.EB21 (headOf (now (date .entry)) (now (code .entry)) (now (item6 .entry)) (now (item7 .entry))) (now (bodies .entry)) (length (now (room .entry))) ⌝ }
-    ensures { λ _. ⌜ now (room .exit) ≡ afterAs Kind.EB21 (headOf (now (date .entry)) (now (code .entry)) (now (item6 .entry)) (now (item7 .entry))) (now (bodies .entry)) (now (room .entry)) ⌝ }
-{
-    if parts_fit(date, code, item6, item7, bodies, 7, 16, 131) {
-        let n = bodies.len() / 131;
-        if kinds::LIMIT < n {
-            return Answer::refused(3);
-        }
-        if room.len() < (n + 2) * 150 {
-            return Answer::refused(8);
-        }
-        let answer = judge_150(date, code, item6, item7, bodies, n);
-        if answer.number == 0 {
-            files::put_150(date, code, item6, item7, bodies, n, room);
+            files::put(kind, date, code, item6, item7, bodies, n, room);
         }
         return answer;
     }
@@ -154,10 +117,10 @@ pub fn write(
     ensures { λ _. ⌜ now (room .exit) ≡ roomAfter kind (headOf (now (date .entry)) (now (code .entry)) (now (item6 .entry)) (now (item7 .entry))) (now (bodies .entry)) (now (room .entry)) ⌝ }
 {
     if kind == Fixed::EB13 {
-        return write_120(date, code, item6, item7, bodies, room);
+        return write_as(Kind::EB13, 0, 0, date, code, item6, item7, bodies, room);
     }
     if kind == Fixed::EB21 {
-        return write_150(date, code, item6, item7, bodies, room);
+        return write_as(Kind::EB21, 7, 16, date, code, item6, item7, bodies, room);
     }
     Answer::refused(1)
 }

@@ -8,8 +8,8 @@ use Rattle.edges.proofs.writes.write_case.Tie as tie
 mark-all-requires : tie.Need-mark-all-requires
 mark-all-requires c κs = search needs
 
-word-requires : tie.Need-word-requires
-word-requires c κs = search needs
+field-requires : tie.Need-field-requires
+field-requires c κs = search needs
 
 number-requires : tie.Need-number-requires
 number-requires c κs = search needs
@@ -26,8 +26,8 @@ slice-aggregate-write c = sym (length-take-le _ (c .before .before .before .befo
 write-requires : tie.Need-write-requires
 write-requires c κs = search needs
 
-word-requires-2 : tie.Need-word-requires-2
-word-requires-2 c κs = search needs
+field-requires-2 : tie.Need-field-requires-2
+field-requires-2 c κs = search needs
 
 rest-requires : tie.Need-rest-requires
 rest-requires c κs = search needs
@@ -52,13 +52,13 @@ write-case-spec =
     tie.close
     (tie.spec
     mark-all-requires
-    word-requires
+    field-requires
     number-requires
     at-most-requires
     slice-relend-prefix-write
     slice-aggregate-write
     write-requires
-    word-requires-2
+    field-requires-2
     rest-requires
     tell-requires
     first-requires

@@ -1,5 +1,5 @@
 -- What is left gets shorter with each line.
-use Rattle.edges_pair.proofs.Shorter.{shorter}
+use Rattle.words.proofs.Marks.{shorter}
 use borrow.Author.Needs.{needs}
 use lib.ListN.{length}
 use Rattle.edges_pair.proofs.cases.run_all.Statement.{statement}
@@ -35,7 +35,7 @@ part-left-end c = search needs
 loop-less : tie.Need-loop-less Inv-loop μ-loop
 loop-less c =
     let b = c .before .before .before in
-    shorter (b .before .before .loop .left .now) (c .before .past .result) (b .before .loop-test .taken) (c .before .past .ensures)
+    shorter (b .before .before .loop .left .now) (c .before .past .result) (b .before .loop-test .taken) (c .before .past .ensures .1)
 
 loop-again : tie.Need-loop-again Inv-loop μ-loop
 loop-again c = search needs

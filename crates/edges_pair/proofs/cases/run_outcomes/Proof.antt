@@ -1,6 +1,6 @@
 -- What is left gets shorter with each word.
 use lib.ListN.{length}
-use Rattle.edges_pair.proofs.Shorter.{shorter}
+use Rattle.words.proofs.Marks.{shorter}
 use borrow.Author.Needs.{needs}
 use Rattle.edges_pair.proofs.cases.run_outcomes.Statement.{statement}
 use Rattle.edges_pair.proofs.cases.run_outcomes.Tie as tie
@@ -35,7 +35,7 @@ part-left-end c = search needs
 loop-less : tie.Need-loop-less Inv-loop μ-loop
 loop-less c =
     let b = c .before .before .before in
-    shorter (b .before .before .loop .left .now) (c .before .past .result) (b .before .loop-test .taken) (c .before .past .ensures)
+    shorter (b .before .before .loop .left .now) (c .before .past .result) (b .before .loop-test .taken) (c .before .past .ensures .1)
 
 loop-again : tie.Need-loop-again Inv-loop μ-loop
 loop-again c = search needs

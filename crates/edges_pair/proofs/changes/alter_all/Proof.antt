@@ -1,7 +1,7 @@
 -- What is left gets shorter with each word.
 use mathlib.Core.Path.{_≡_}
 use lib.ListN.{length}
-use Rattle.edges_pair.proofs.Shorter.{shorter}
+use Rattle.words.proofs.Marks.{shorter}
 use borrow.Author.Needs.{needs}
 use Rattle.edges_pair.proofs.changes.alter_all.Statement.{statement}
 use Rattle.edges_pair.proofs.changes.alter_all.Tie as tie
@@ -36,7 +36,7 @@ part-left-end c = search needs
 loop-less : tie.Need-loop-less Inv-loop μ-loop
 loop-less c =
     let b = c .before .before .before .before .before .before in
-    shorter (b .before .before .loop .left .now) (c .before .past .result) (b .before .loop-test .taken) (c .before .past .ensures)
+    shorter (b .before .before .loop .left .now) (c .before .past .result) (b .before .loop-test .taken) (c .before .past .ensures .1)
 
 loop-again : tie.Need-loop-again Inv-loop μ-loop
 loop-again c = search needs

@@ -1,16 +1,9 @@
 -- What is left gets shorter with each line.
-use Prim.Native.Nat.{ℕ, _-_, _≤_, _<_}
-use mathlib.Core.List.{List}
-use native.Mathlib.Omega.{arith}
-use lib.ListN.{length, take, drop, length-take, length-drop}
+use lib.ListN.{length}
+use Rattle.words.proofs.Marks.{shorter}
 use borrow.Author.Needs.{needs}
 use Rattle.edges_post.proofs.cases.run_all.Statement.{statement}
 use Rattle.edges_post.proofs.cases.run_all.Tie as tie
-
-shorter : (s : List ℕ) (n : ℕ) → 0 < length s → (n ≤ length s) × (0 < length s → 0 < n) → length (take (length s - n) (drop n s)) < length s
-shorter s n full h =
-    let p : 0 < n = h .1 full in
-    simp (length-take, length-drop) (omega arith)
 
 abbrev Inv-loop : tie.InvT-loop
 Inv-loop list left₀ left = Unit {0}
@@ -42,7 +35,7 @@ part-left-end c = search needs
 loop-less : tie.Need-loop-less Inv-loop μ-loop
 loop-less c =
     let b = c .before .before .before in
-    shorter (b .before .before .loop .left .now) (c .before .past .result) (b .before .loop-test .taken) (c .before .past .ensures)
+    shorter (b .before .before .loop .left .now) (c .before .past .result) (b .before .loop-test .taken) (c .before .past .ensures .1)
 
 loop-again : tie.Need-loop-again Inv-loop μ-loop
 loop-again c = search needs

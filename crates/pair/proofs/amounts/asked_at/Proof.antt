@@ -1,6 +1,5 @@
 -- What the request adds.
 use Rattle.pair.specs.Amounts.{askedAt}
-use mathlib.Core.Path.{sym}
 use borrow.Author.Needs.{needs}
 use Rattle.pair.proofs.amounts.asked_at.Statement.{statement}
 use Rattle.pair.proofs.amounts.asked_at.Tie as tie

@@ -29,7 +29,7 @@ fill-requires c κs =
     let e = rw (p .pair-by .ensures) at (c .before .before .if1 .taken) in
     let known = pair-known (a .pair) (a .request .now) (a .result .now) fits e in
     let room = lent-fits (a .pair) (a .request .now) (a .result .now) (length (a .taken .now)) (length (a .not-taken .now)) (n .data-count .result) (n .before .request-kind .result) fits (n .before .request-kind .ensures) (n .data-count .ensures) (p .before .lists-fit .ensures) (pair-fits (a .pair) (a .request .now) (a .result .now) fits e) in
-    (known .request .lengths .fewest, (known .result .lengths .fewest, room))
+    (known .request .lengths .fewest, (known .request .lengths .most, (known .result .lengths .fewest, (known .result .lengths .most, room))))
 
 same-length : tie.Need-same-length
 same-length c = search needs

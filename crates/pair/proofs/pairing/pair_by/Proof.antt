@@ -1,8 +1,8 @@
 -- One stage after the other.
-use Rattle.pair.proofs.Stages.{by-request, by-result, by-headers, by-room, by-results}
-use Rattle.pair.specs.Kinds.{requestKind, resultKind}
+use Rattle.pair.proofs.Stages.{read-number, by-request, by-result, by-headers, by-room, by-results}
+use Rattle.terms.specs.Kinds.{requestKind, resultKind}
 use Rattle.reader.proofs.Exact.{accepted-meets}
-use mathlib.Core.Path.{sym}
+use mathlib.Core.Path.{sym, _∙_}
 use borrow.Author.Needs.{needs}
 use Rattle.pair.proofs.pairing.pair_by.Statement.{statement}
 use Rattle.pair.proofs.pairing.pair_by.Tie as tie
@@ -19,8 +19,10 @@ on-side-requires c κs = search needs
 returns : tie.Need-returns
 returns c =
     let q = c .before .before .before in
+    let a = q .before .before .before .before .args in
+    let n = read-number (requestKind (a .pair)) _ (a .request .now) _ (q .before .request-kind .ensures) (q .read-as .ensures) in
     rw (c .on-side .ensures, q .read-as .ensures, q .before .request-kind .ensures)
-    (sym (by-request _ _ _ _ (rw (← q .before .request-kind .ensures, ← q .read-as .ensures) (c .before .if1 .taken))))
+    (sym (by-request (a .pair) (a .request .now) (a .result .now) _ (λ z. c .before .if1 .taken (n ∙ z))))
 
 result-kind-requires : tie.Need-result-kind-requires
 result-kind-requires c κs = search needs
@@ -35,16 +37,21 @@ returns-2 : tie.Need-returns-2
 returns-2 c =
     let r = c .before .before .before in
     let q = r .before .before .before .before in
+    let a = q .before .before .before .before .args in
+    let request = sym (read-number (requestKind (a .pair)) _ (a .request .now) _ (q .before .request-kind .ensures) (q .read-as .ensures)) ∙ r .before .before .if1 .left in
+    let n = read-number (resultKind (a .pair)) _ (a .result .now) _ (r .before .result-kind .ensures) (r .read-as2 .ensures) in
     rw (c .on-side2 .ensures, r .read-as2 .ensures, r .before .result-kind .ensures)
-    (sym (by-result _ _ _ _ (rw (← q .before .request-kind .ensures, ← q .read-as .ensures) (r .before .before .if1 .left)) (rw (← r .before .result-kind .ensures, ← r .read-as2 .ensures) (c .before .if2 .taken))))
+    (sym (by-result (a .pair) (a .request .now) (a .result .now) _ request (λ z. c .before .if2 .taken (n ∙ z))))
 
 headers-tell-requires : tie.Need-headers-tell-requires
 headers-tell-requires c κs =
     let r = c .before .before in
     let q = r .before .before .before .before in
-    let a = q .before .before .before .before .args in (
-      accepted-meets (requestKind (a .pair)) (a .request .now) (rw (← q .before .request-kind .ensures, ← q .read-as .ensures) (r .before .before .if1 .left)) .lengths .fewest,
-      accepted-meets (resultKind (a .pair)) (a .result .now) (rw (← r .before .result-kind .ensures, ← r .read-as2 .ensures) (c .if2 .left)) .lengths .fewest,
+    let a = q .before .before .before .before .args in
+    let request = sym (read-number (requestKind (a .pair)) _ (a .request .now) _ (q .before .request-kind .ensures) (q .read-as .ensures)) ∙ r .before .before .if1 .left in
+    let n = read-number (resultKind (a .pair)) _ (a .result .now) _ (r .before .result-kind .ensures) (r .read-as2 .ensures) in (
+      accepted-meets (requestKind (a .pair)) (a .request .now) request .lengths .fewest,
+      accepted-meets (resultKind (a .pair)) (a .result .now) (sym n ∙ c .if2 .left) .lengths .fewest,
     )
 
 returns-3 : tie.Need-returns-3
@@ -52,25 +59,43 @@ returns-3 c =
     let h = c .before .before in
     let r = h .before .before .before in
     let q = r .before .before .before .before in
+    let a = q .before .before .before .before .args in
+    let request = sym (read-number (requestKind (a .pair)) _ (a .request .now) _ (q .before .request-kind .ensures) (q .read-as .ensures)) ∙ r .before .before .if1 .left in
+    let n = read-number (resultKind (a .pair)) _ (a .result .now) _ (r .before .result-kind .ensures) (r .read-as2 .ensures) in
     rw (h .headers-tell .ensures)
-    (sym (by-headers _ _ _ _ (rw (← q .before .request-kind .ensures, ← q .read-as .ensures) (r .before .before .if1 .left)) (rw (← r .before .result-kind .ensures, ← r .read-as2 .ensures) (h .before .if2 .left)) (rw (← h .headers-tell .ensures) (c .if3 .taken))))
+    (sym (by-headers (a .pair) (a .request .now) (a .result .now) _ request (sym n ∙ h .before .if2 .left) (rw (← h .headers-tell .ensures) (c .if3 .taken))))
+
+requests-for-requires : tie.Need-requests-for-requires
+requests-for-requires c κs =
+    let r = c .before .before .before .before .before .before in
+    let q = r .before .before .before .before in
+    let a = q .before .before .before .before .args in
+    let request = sym (read-number (requestKind (a .pair)) _ (a .request .now) _ (q .before .request-kind .ensures) (q .read-as .ensures)) ∙ r .before .before .if1 .left in
+    let n = read-number (resultKind (a .pair)) _ (a .result .now) _ (r .before .result-kind .ensures) (r .read-as2 .ensures) in
+    let of-request = accepted-meets (requestKind (a .pair)) (a .request .now) request .lengths in
+    let of-result = accepted-meets (resultKind (a .pair)) (a .result .now) (sym n ∙ c .before .before .before .before .if2 .left) .lengths in
+    (of-request .fewest, (of-request .most, of-result .fewest))
+
+slice-aggregate-results-tell : tie.Need-slice-aggregate-results-tell
+slice-aggregate-results-tell c = search needs
 
 results-tell-requires : tie.Need-results-tell-requires
 results-tell-requires c κs =
-    let r = c .before .before .before .before .before .before in
-    let q = r .before .before .before .before in
-    let a = q .before .before .before .before .args in (
-      accepted-meets (requestKind (a .pair)) (a .request .now) (rw (← q .before .request-kind .ensures, ← q .read-as .ensures) (r .before .before .if1 .left)) .lengths .fewest,
-      accepted-meets (resultKind (a .pair)) (a .result .now) (rw (← r .before .result-kind .ensures, ← r .read-as2 .ensures) (c .before .before .before .before .if2 .left)) .lengths .fewest,
-    )
+    let r = c .before .before .before .before .before .before .before .before in
+    let a = r .before .before .before .before .before .before .before .before .args in
+    let n = read-number (resultKind (a .pair)) _ (a .result .now) _ (r .before .result-kind .ensures) (r .read-as2 .ensures) in
+    (accepted-meets (resultKind (a .pair)) (a .result .now) (sym n ∙ c .before .before .before .before .before .before .if2 .left) .lengths .most, c .before .requests-for .ensures)
 
 returns-4 : tie.Need-returns-4
 returns-4 c =
-    let h = c .before .before .before .before in
+    let h = c .before .before .before .before .before .before in
     let r = h .before .before .before in
     let q = r .before .before .before .before in
+    let a = q .before .before .before .before .args in
+    let request = sym (read-number (requestKind (a .pair)) _ (a .request .now) _ (q .before .request-kind .ensures) (q .read-as .ensures)) ∙ r .before .before .if1 .left in
+    let n = read-number (resultKind (a .pair)) _ (a .result .now) _ (r .before .result-kind .ensures) (r .read-as2 .ensures) in
     rw (c .results-tell .ensures)
-    (sym (by-results _ _ _ _ (rw (← q .before .request-kind .ensures, ← q .read-as .ensures) (r .before .before .if1 .left)) (rw (← r .before .result-kind .ensures, ← r .read-as2 .ensures) (h .before .if2 .left)) (rw (← h .headers-tell .ensures) (c .before .before .if3 .left)) (c .before .if4 .taken)))
+    (sym (by-results (a .pair) (a .request .now) (a .result .now) _ request (sym n ∙ h .before .if2 .left) (rw (← h .headers-tell .ensures) (c .before .before .before .before .if3 .left)) (c .before .before .before .if4 .taken)))
 
 refused-requires : tie.Need-refused-requires
 refused-requires c κs = search needs
@@ -80,8 +105,11 @@ returns-5 c =
     let h = c .before .before .before .before in
     let r = h .before .before .before in
     let q = r .before .before .before .before in
+    let a = q .before .before .before .before .args in
+    let request = sym (read-number (requestKind (a .pair)) _ (a .request .now) _ (q .before .request-kind .ensures) (q .read-as .ensures)) ∙ r .before .before .if1 .left in
+    let n = read-number (resultKind (a .pair)) _ (a .result .now) _ (r .before .result-kind .ensures) (r .read-as2 .ensures) in
     rw (c .refused .ensures)
-    (sym (by-room _ _ _ _ (rw (← q .before .request-kind .ensures, ← q .read-as .ensures) (r .before .before .if1 .left)) (rw (← r .before .result-kind .ensures, ← r .read-as2 .ensures) (h .before .if2 .left)) (rw (← h .headers-tell .ensures) (c .before .before .if3 .left)) (c .before .if4 .left)))
+    (sym (by-room (a .pair) (a .request .now) (a .result .now) _ request (sym n ∙ h .before .if2 .left) (rw (← h .headers-tell .ensures) (c .before .before .if3 .left)) (c .before .if4 .left)))
 
 pub pair-by-spec : {M : Type 1} → statement M
 pair-by-spec =
@@ -97,6 +125,8 @@ pair-by-spec =
     returns-2
     headers-tell-requires
     returns-3
+    requests-for-requires
+    slice-aggregate-results-tell
     results-tell-requires
     returns-4
     refused-requires

@@ -2,7 +2,8 @@
 use Prim.Native.Nat.{_≤_, _-_}
 use Rattle.laws.proofs.Leasts.{least-start}
 use Rattle.layout.proofs.Told.{So-far, told-more, told-stop, told-end}
-use Rattle.pair.specs.Kinds.{resultKind}
+use Rattle.terms.specs.Kinds.{resultKind}
+use Rattle.pair.proofs.Found.{request-of, requests-length}
 use Rattle.pair.specs.Results.{resultTells, resultsTell}
 use Rattle.reader.specs.Records.{dataOf}
 use mathlib.Core.Path.{_≡_, sym}
@@ -13,34 +14,43 @@ use Rattle.pair.proofs.results.results_tell.Statement.{statement}
 use Rattle.pair.proofs.results.results_tell.Tie as tie
 
 abbrev Inv-loop : tie.InvT-loop
-Inv-loop pair request result m j₀ j = (j ≤ m) × (m ≡ dataOf (resultKind pair) result) × So-far (resultTells pair request result) j
+Inv-loop pair request result requests m j₀ j = (j ≤ m) × (m ≡ dataOf (resultKind pair) result) × So-far (resultTells pair request result) j
 
 abbrev μ-loop : tie.MeasureT-loop
-μ-loop pair request result m j₀ j = m - j
+μ-loop pair request result requests m j₀ j = m - j
 
 result-kind-requires : tie.Need-result-kind-requires Inv-loop μ-loop
 result-kind-requires c κs = search needs
 
-count-requires : tie.Need-count-requires Inv-loop μ-loop
-count-requires c κs = search needs
-
-sub-m : tie.Need-sub-m Inv-loop μ-loop
-sub-m c = rw (c .count .ensures, c .before .result-kind .ensures) (c .before .before .before .before .pre .1)
+data-count-requires : tie.Need-data-count-requires Inv-loop μ-loop
+data-count-requires c κs = search needs
 
 loop-holds : tie.Need-loop-holds Inv-loop μ-loop
-loop-holds c = (search needs, rw (c .count .ensures, c .before .result-kind .ensures), least-start _)
+loop-holds c = (search needs, rw (c .data-count .ensures, c .before .result-kind .ensures), least-start _)
+
+mul-result-tells : tie.Need-mul-result-tells Inv-loop μ-loop
+mul-result-tells c = search needs
+
+shared-slice-read-result-tells : tie.Need-shared-slice-read-result-tells Inv-loop μ-loop
+shared-slice-read-result-tells c =
+    let b = c .before .before .before .before .before .before .before .before in
+    rw (b .pre .1, requests-length (b .args .pair) (b .args .request .now) (b .args .result .now)) (omega (arith, b .pre .0, c .before .before .loop .inv .1, c .before .loop-test .taken))
 
 result-tells-requires : tie.Need-result-tells-requires Inv-loop μ-loop
 result-tells-requires c κs =
-    let b = c .before .before .before .before .before .before in
-    (b .pre .0, omega (arith, c .before .loop .inv .1, c .loop-test .taken, b .pre .1))
+    let b = c .before .before .before .before .before .before .before .before in
+    let l = c .before .before .loop in
+    let less = c .before .loop-test .taken in (
+      omega (arith, l .inv .1, less),
+      rw (b .pre .1) (request-of (b .args .pair) (b .args .request .now) (b .args .result .now) (omega (arith, b .pre .0)) (l .j) (omega (arith, l .inv .1, less))),
+    )
 
 returns : tie.Need-returns Inv-loop μ-loop
 unfolding resultsTell
 returns c =
-    let l = c .before .before .before .before .loop in
+    let l = c .before .before .before .before .before .loop in
     rw (c .before .before .result-tells .ensures)
-    (sym (told-stop (resultTells _ _ _) (l .j) _ (omega (arith, l .inv .1, c .before .before .before .loop-test .taken)) (l .inv .2) (rw (← c .before .before .result-tells .ensures) (c .if1 .taken))))
+    (sym (told-stop (resultTells _ _ _) (l .j) _ (omega (arith, l .inv .1, c .before .before .before .before .loop-test .taken)) (l .inv .2) (rw (← c .before .before .result-tells .ensures) (c .if1 .taken))))
 
 add-j : tie.Need-add-j Inv-loop μ-loop
 add-j c = search needs
@@ -50,7 +60,7 @@ loop-less c = search needs
 
 loop-again : tie.Need-loop-again Inv-loop μ-loop
 loop-again c =
-    let l = c .before .before .before .before .loop in
+    let l = c .before .before .before .before .before .loop in
     (search needs, l .inv .1, told-more (resultTells _ _ _) (l .j) (l .inv .2) (rw (← c .before .before .result-tells .ensures) (c .if1 .left)))
 
 accepted-requires : tie.Need-accepted-requires Inv-loop μ-loop
@@ -70,9 +80,10 @@ results-tell-spec =
     Inv-loop
     μ-loop
     result-kind-requires
-    count-requires
-    sub-m
+    data-count-requires
     loop-holds
+    mul-result-tells
+    shared-slice-read-result-tells
     result-tells-requires
     returns
     add-j

@@ -6,6 +6,7 @@ use Rattle.posting.specs.Lines.{acceptedLine}
 use Rattle.posting.specs.Posting.{lineAt, acceptedText}
 use mathlib.Core.Path.{_∙_}
 use native.Mathlib.Nat.{zero-add}
+use native.Mathlib.Omega.{arith}
 use borrow.Author.Needs.{needs}
 use Rattle.posting.proofs.posting.put_all.Statement.{statement}
 use Rattle.posting.proofs.posting.put_all.Tie as tie
@@ -20,7 +21,10 @@ put-accepted-requires : tie.Need-put-accepted-requires
 put-accepted-requires c κs = search needs
 
 put-requests-requires : tie.Need-put-requests-requires
-put-requests-requires c κs = search needs
+put-requests-requires c κs =
+    let n = c .before .before .before .before .before .before in
+    let b = n .before .before .before .before .before in
+    (n .data-count .ensures, (omega (arith, n .data-count .ensures, b .pre .0), (b .pre .1 .0, search needs)))
 
 same-length : tie.Need-same-length
 same-length c = search needs
@@ -32,7 +36,7 @@ returns c =
     let first = c .before .before .before .before .before .before .put-accepted in
     let s = c .before .before .before .before .before .before .before .before in
     let n = s .before .data-count in
-    let a = s .before .before .before .before .before .args in
+    let a = s .before .before .before .before .before .before .args in
     let p1 = put (acceptedLine (n .result) (s .sums-of .result)) (first .ensures .0) (first .ensures .1 .0) in
     let p2 = put (joined (lineAt (a .request .now) (a .result .now)) (n .result)) (others .ensures .0) (others .ensures .1 .0) in
     let p = put-then p1 p2 zero-le in

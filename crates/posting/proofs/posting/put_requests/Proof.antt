@@ -1,9 +1,11 @@
 -- One line after the other.
 use Prim.Native.Nat.{_≤_, _-_, _+_, _*_}
 use Rattle.laws.specs.Joined.{joined}
+use Rattle.pair.proofs.Found.{result-of, results-length}
 use Rattle.posting.proofs.Following.{Put, put, joined-none, joined-next}
 use Rattle.posting.specs.Lines.{requestLine}
 use Rattle.posting.specs.Posting.{lineAt}
+use Rattle.terms.specs.declared.kinds.PairKind.the-variants.{Debit}
 use lib.ListN.{length}
 use mathlib.Core.Path.{_≡_, refl, _∙_}
 use native.Mathlib.Nat.{le-antisymm}
@@ -13,19 +15,32 @@ use Rattle.posting.proofs.posting.put_requests.Statement.{statement}
 use Rattle.posting.proofs.posting.put_requests.Tie as tie
 
 abbrev Inv-loop : tie.InvT-loop
-Inv-loop request result n text₀ at place₀ i₀ text place i =
+Inv-loop request result results n text₀ at place₀ i₀ text place i =
     (i ≤ n) × (length text ≡ length text₀) × (place ≤ at + i * 80) × Put at (joined (lineAt request result) i) text₀ place text
 
 abbrev μ-loop : tie.MeasureT-loop
-μ-loop request result n text₀ at place₀ i₀ text place i = n - i
+μ-loop request result results n text₀ at place₀ i₀ text place i = n - i
 
 loop-holds : tie.Need-loop-holds Inv-loop μ-loop
 loop-holds c =
-    let a = c .before .before .before .args in
+    let a = c .before .before .before .before .args in
     (search needs, refl, omega arith, joined-none (lineAt (a .request .now) (a .result .now)) (a .at) (a .text .now))
 
+mul-outcome-at : tie.Need-mul-outcome-at Inv-loop μ-loop
+mul-outcome-at c = search needs
+
+shared-slice-read-outcome-at : tie.Need-shared-slice-read-outcome-at Inv-loop μ-loop
+shared-slice-read-outcome-at c =
+    let b = c .before .before .before .before .before .before .before in
+    rw (b .pre .1 .1 .0, results-length Debit (b .args .request .now) (b .args .result .now)) (omega (arith, b .pre .1 .0, c .before .loop-test .taken))
+
 outcome-at-requires : tie.Need-outcome-at-requires Inv-loop μ-loop
-outcome-at-requires c κs = search needs
+outcome-at-requires c κs =
+    let b = c .before .before .before .before .before .before .before in
+    let a = b .args in
+    let p = b .pre in
+    let less = c .before .loop-test .taken in
+    (omega (arith, p .0, less), rw (p .1 .1 .0) (result-of Debit (a .request .now) (a .result .now) (omega (arith, p .0, p .1 .0)) (c .before .before .loop .i) (omega (arith, p .0, less))))
 
 add-put-request : tie.Need-add-put-request Inv-loop μ-loop
 add-put-request c = search needs
@@ -44,8 +59,8 @@ unfolding lineAt
 loop-again c =
     let s = c .before .before .put-request in
     let o = c .before .before .before .before .outcome-at in
-    let l = c .before .before .before .before .before .before .loop in
-    let a = c .before .before .before .before .before .before .before .before .before .before .args in
+    let l = c .before .before .before .before .before .before .before .loop in
+    let a = c .before .before .before .before .before .before .before .before .before .before .before .before .args in
     let next = rw (o .ensures) at (put (requestLine (l .i + 1) (o .result)) (s .ensures .0) (s .ensures .1 .0)) in (
       search needs,
       s .kept .0 ∙ l .inv .1,
@@ -69,6 +84,8 @@ put-requests-spec =
     Inv-loop
     μ-loop
     loop-holds
+    mul-outcome-at
+    shared-slice-read-outcome-at
     outcome-at-requires
     add-put-request
     put-request-requires

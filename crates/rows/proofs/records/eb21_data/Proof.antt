@@ -1,20 +1,13 @@
 -- The table holds the rows of `eb21Data`.
-use Rattle.laws.proofs.Parts.{inside}
-use Rattle.tables.specs.Rows.{blank}
+use Rattle.rows.specs.Laid.{laid, laidOut}
 use Rattle.tables.specs.Tables.{eb21Data, debitData, dataFront}
-use borrow.Author.Needs.{needs}
+use mathlib.Core.Path.{refl}
 use Rattle.rows.proofs.records.eb21_data.Statement.{statement}
 use Rattle.rows.proofs.records.eb21_data.Tie as tie
 
-mul-result : tie.Need-mul-result
-mul-result c = search needs
-
-array-copy-out-result : tie.Need-array-copy-out-result
-array-copy-out-result c = search needs
-
 returns : tie.Need-returns
-unfolding eb21Data debitData dataFront
-returns c = inside eb21Data (c .before .args .i) _ blank (search needs)
+unfolding laidOut laid eb21Data debitData dataFront
+returns c = refl
 
 pub eb21-data-spec : {M : Type 1} → statement M
-eb21-data-spec = tie.close (tie.spec mul-result array-copy-out-result returns)
+eb21-data-spec = tie.close (tie.spec returns)

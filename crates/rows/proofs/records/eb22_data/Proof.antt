@@ -1,20 +1,13 @@
 -- The table holds the rows of `eb22Data`.
-use Rattle.laws.proofs.Parts.{inside}
-use Rattle.tables.specs.Rows.{blank}
+use Rattle.rows.specs.Laid.{laid, laidOut}
 use Rattle.tables.specs.Tables.{eb22Data, debitData, dataFront}
-use borrow.Author.Needs.{needs}
+use mathlib.Core.Path.{refl}
 use Rattle.rows.proofs.records.eb22_data.Statement.{statement}
 use Rattle.rows.proofs.records.eb22_data.Tie as tie
 
-mul-result : tie.Need-mul-result
-mul-result c = search needs
-
-array-copy-out-result : tie.Need-array-copy-out-result
-array-copy-out-result c = search needs
-
 returns : tie.Need-returns
-unfolding eb22Data debitData dataFront
-returns c = inside eb22Data (c .before .args .i) _ blank (search needs)
+unfolding laidOut laid eb22Data debitData dataFront
+returns c = refl
 
 pub eb22-data-spec : {M : Type 1} → statement M
-eb22-data-spec = tie.close (tie.spec mul-result array-copy-out-result returns)
+eb22-data-spec = tie.close (tie.spec returns)

@@ -1,6 +1,5 @@
 -- Each pair kind by its table.
-use Rattle.tables.specs.Copied.{among, itemsBut, enrolmentCopied, debitCopied}
-use Rattle.tables.specs.Tables.{dataFront, enrolmentData, debitData, eb13Data, eb21Data}
+use Rattle.tables.proofs.Counts.{enrolment-count, debit-count}
 use borrow.Author.Needs.{needs}
 use Rattle.tables.proofs.copied.copied_at.Statement.{statement}
 use Rattle.tables.proofs.copied.copied_at.Tie as tie
@@ -9,29 +8,25 @@ enum-told : tie.Need-enum-told
 enum-told c = search needs
 
 enrolment-copied-requires : tie.Need-enrolment-copied-requires
-unfolding enrolmentCopied itemsBut among eb13Data enrolmentData dataFront
-enrolment-copied-requires c κs = rw (c .enum-told .given .1) at (c .before .before .pre)
+enrolment-copied-requires c κs = rw (c .enum-told .given .1, enrolment-count) at (c .before .before .pre)
 
 enum-told-2 : tie.Need-enum-told-2
 enum-told-2 c = search needs
 
 enrolment-copied-requires-2 : tie.Need-enrolment-copied-requires-2
-unfolding enrolmentCopied itemsBut among eb13Data enrolmentData dataFront
-enrolment-copied-requires-2 c κs = rw (c .enum-told2 .given .1) at (c .before .before .pre)
+enrolment-copied-requires-2 c κs = rw (c .enum-told2 .given .1, enrolment-count) at (c .before .before .pre)
 
 enum-told-3 : tie.Need-enum-told-3
 enum-told-3 c = search needs
 
 debit-copied-requires : tie.Need-debit-copied-requires
-unfolding debitCopied itemsBut among eb21Data debitData dataFront
-debit-copied-requires c κs = rw (c .enum-told3 .given .1) at (c .before .before .pre)
+debit-copied-requires c κs = rw (c .enum-told3 .given .1, debit-count) at (c .before .before .pre)
 
 enum-told-4 : tie.Need-enum-told-4
 enum-told-4 c = search needs
 
 debit-copied-requires-2 : tie.Need-debit-copied-requires-2
-unfolding debitCopied itemsBut among eb21Data debitData dataFront
-debit-copied-requires-2 c κs = rw (c .enum-told4 .given .1) at (c .before .before .pre)
+debit-copied-requires-2 c κs = rw (c .enum-told4 .given .1, debit-count) at (c .before .before .pre)
 
 returns : tie.Need-returns
 returns c = rw (c .before .enum-told .given .1) (c .enrolment-copied .ensures)

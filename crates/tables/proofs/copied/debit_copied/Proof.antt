@@ -14,7 +14,7 @@ array-copy-out-result c = search needs
 
 returns : tie.Need-returns
 unfolding debitCopied itemsBut among eb21Data debitData dataFront
-returns c = inside debitCopied (c .before .args .i) _ noItem (search needs)
+returns c = inside debitCopied (c .before .args .i) _ noItem (c .before .pre)
 
 pub debit-copied-spec : {M : Type 1} → statement M
 debit-copied-spec = tie.close (tie.spec mul-result array-copy-out-result returns)

@@ -14,7 +14,7 @@ array-copy-out-result c = search needs
 
 returns : tie.Need-returns
 unfolding enrolmentCopied itemsBut among eb13Data enrolmentData dataFront
-returns c = inside enrolmentCopied (c .before .args .i) _ noItem (search needs)
+returns c = inside enrolmentCopied (c .before .args .i) _ noItem (c .before .pre)
 
 pub enrolment-copied-spec : {M : Type 1} → statement M
 enrolment-copied-spec = tie.close (tie.spec mul-result array-copy-out-result returns)

@@ -1,46 +1,53 @@
 -- The loop looks for the first row over the place.
 use Prim.Native.Nat.{_≤_, _-_}
-use Rattle.laws.proofs.Leasts.{least-start, least-more, least-stop}
+use Rattle.laws.proofs.Leasts.{least-start, least-more}
 use Rattle.laws.specs.Least.{least}
-use Rattle.tables.specs.Rows.{blank}
-use Rattle.tables.specs.Tables.{rowsOf}
-use Rattle.writer.proofs.Rows.{row-small}
-use Rattle.writer.specs.Bytes.{over, rowOver}
+use Rattle.rows.proofs.Laying.{rows-fit}
+use Rattle.writer.proofs.Over.{laid-stop, laid-end}
+use Rattle.writer.proofs.Rows.{laid-small}
+use Rattle.writer.specs.Bytes.{over}
 use borrow.Author.Needs.{needs}
-use lib.ListN.{length, List·getD-eq-default}
-use mathlib.Core.Path.{_≡_, sym}
-use native.Mathlib.Nat.{le-antisymm, le-refl}
+use mathlib.Core.Path.{_≡_}
+use native.Mathlib.Nat.{le-antisymm}
 use native.Mathlib.Omega.{arith}
 use Rattle.writer.proofs.bytes.row_over.Statement.{statement}
 use Rattle.writer.proofs.bytes.row_over.Tie as tie
 
 abbrev Inv-loop : tie.InvT-loop
-Inv-loop kind role j n i₀ i = (i ≤ n) × (n ≡ length (rowsOf kind role)) × (least (over (rowsOf kind role) j) i ≡ i)
+Inv-loop j n rows i₀ i = (i ≤ n) × (least (over rows j) i ≡ i)
 
 abbrev μ-loop : tie.MeasureT-loop
-μ-loop kind role j n i₀ i = n - i
+μ-loop j n rows i₀ i = n - i
 
 row-count-requires : tie.Need-row-count-requires Inv-loop μ-loop
 row-count-requires c κs = search needs
 
-loop-holds : tie.Need-loop-holds Inv-loop μ-loop
-loop-holds c = (search needs, c .row-count .ensures, least-start _)
+rows-of-requires : tie.Need-rows-of-requires Inv-loop μ-loop
+rows-of-requires c κs = search needs
 
-row-at-requires : tie.Need-row-at-requires Inv-loop μ-loop
-row-at-requires c κs = search needs
+loop-holds : tie.Need-loop-holds Inv-loop μ-loop
+loop-holds c = (search needs, least-start _)
+
+mul-row : tie.Need-mul-row Inv-loop μ-loop
+mul-row c = let a = c .before .before .before .before .args in omega (arith, rows-fit (a .kind) (a .role))
+
+array-copy-out-row : tie.Need-array-copy-out-row Inv-loop μ-loop
+array-copy-out-row c = let a = c .before .before .before .before .args in omega (arith, rows-fit (a .kind) (a .role))
 
 over-requires : tie.Need-over-requires Inv-loop μ-loop
 over-requires c κs =
-    let a = c .before .before .before .before .args in
-    rw (c .row-at .ensures) (row-small (a .kind) (a .role) (c .before .before .loop .i) (omega arith))
+    let a = c .before .before .before .before .before .args in
+    let t = c .before .before .before .rows-of in
+    laid-small (a .kind) (a .role) (t .result) (t .ensures) (c .before .before .loop .i) (omega arith)
 
 returns : tie.Need-returns Inv-loop μ-loop
-unfolding rowOver over
 returns c =
-    let l = c .before .before .before .before .loop in
-    let a = c .before .before .before .before .before .before .args in
-    let stop = least-stop (over (rowsOf (a .kind) (a .role)) (a .j)) (l .i) (length (rowsOf (a .kind) (a .role))) (omega arith) (l .inv .2) (rw (← c .before .before .row-at .ensures, ← c .before .over .ensures) (c .if1 .taken)) in
-    (rw stop (c .before .before .row-at .ensures), rw (c .before .before .row-at .ensures) (row-small (a .kind) (a .role) (l .i) (omega arith)))
+    let a = c .before .before .before .before .before .before .before .args in
+    let t = c .before .before .before .before .before .rows-of in
+    let l = c .before .before .before .before .loop in (
+      laid-stop (a .kind) (a .role) (t .result) (t .ensures) (a .j) (l .i) (omega arith) (l .inv .1) (rw (← c .before .over .ensures) (c .if1 .taken)),
+      laid-small (a .kind) (a .role) (t .result) (t .ensures) (l .i) (omega arith),
+    )
 
 add-i : tie.Need-add-i Inv-loop μ-loop
 add-i c = search needs
@@ -52,16 +59,16 @@ loop-again : tie.Need-loop-again Inv-loop μ-loop
 unfolding over
 loop-again c =
     let l = c .before .before .before .before .loop in
-    (search needs, l .inv .1, least-more _ (l .i) (l .inv .2) (rw (← c .before .before .row-at .ensures, ← c .before .over .ensures) (c .if1 .left)))
+    (search needs, least-more _ (l .i) (l .inv .1) (rw (← c .before .over .ensures) (c .if1 .left)))
 
 returns-2 : tie.Need-returns-2 Inv-loop μ-loop
-unfolding rowOver
 returns-2 c =
-    let l = c .before .loop in
-    let a = c .before .before .before .args in
-    let end : least (over (rowsOf (a .kind) (a .role)) (a .j)) (length (rowsOf (a .kind) (a .role))) ≡ length (rowsOf (a .kind) (a .role)) =
-    rw (← l .inv .1, le-antisymm (c .loop-test .left) (l .inv .0)) (l .inv .2) in
-    (rw end (sym (List·getD-eq-default (rowsOf (a .kind) (a .role)) blank (le-refl _))), search needs)
+    let a = c .before .before .before .before .args in
+    let t = c .before .before .rows-of in
+    let l = c .before .loop in (
+      laid-end (a .kind) (a .role) (t .result) (t .ensures) (a .j) (rw (← c .before .before .before .row-count .ensures, le-antisymm (c .loop-test .left) (l .inv .0)) (l .inv .1)),
+      search needs,
+    )
 
 pub row-over-spec : {M : Type 1} → statement M
 row-over-spec =
@@ -70,8 +77,10 @@ row-over-spec =
     Inv-loop
     μ-loop
     row-count-requires
+    rows-of-requires
     loop-holds
-    row-at-requires
+    mul-row
+    array-copy-out-row
     over-requires
     returns
     add-i

@@ -1,6 +1,5 @@
 -- One byte after the other.
 use Prim.Native.Nat.{_≤_, _-_}
-use Rattle.tables.specs.declared.kinds.Kind.the-variants.{EB13}
 use Rattle.laws.proofs.Tabs.{tab-start, tab-more, tab-end}
 use Rattle.laws.specs.Tabulate.{tabulate}
 use Rattle.writer.specs.Records.{dataByte, dataBuilt}
@@ -14,13 +13,13 @@ use Rattle.writer.proofs.records.data_120.Statement.{statement}
 use Rattle.writer.proofs.records.data_120.Tie as tie
 
 abbrev Inv-loop : tie.InvT-loop
-Inv-loop header bodies i rec₀ j₀ rec j = (j ≤ 120) × (length rec ≡ 120) × (take j rec ≡ tabulate (dataByte EB13 header bodies i) j)
+Inv-loop kind header bodies i rec₀ j₀ rec j = (j ≤ 120) × (length rec ≡ 120) × (take j rec ≡ tabulate (dataByte kind header bodies i) j)
 
 abbrev μ-loop : tie.MeasureT-loop
-μ-loop header bodies i rec₀ j₀ rec j = 120 - j
+μ-loop kind header bodies i rec₀ j₀ rec j = 120 - j
 
 loop-holds : tie.Need-loop-holds Inv-loop μ-loop
-loop-holds c = (search needs, refl, tab-start (dataByte EB13 _ _ _) [])
+loop-holds c = (search needs, refl, tab-start (dataByte _ _ _ _) [])
 
 data-byte-requires : tie.Need-data-byte-requires Inv-loop μ-loop
 data-byte-requires c κs = search needs
@@ -43,7 +42,7 @@ returns : tie.Need-returns Inv-loop μ-loop
 unfolding dataBuilt
 returns c =
     let l = c .before .loop in
-    tab-end _ (l .rec) 120 (l .inv .1) (rw (le-antisymm (c .loop-test .left) (l .inv .0)) (l .inv .2))
+    rw (c .before .before .before .before .pre .0) (tab-end _ (l .rec) 120 (l .inv .1) (rw (le-antisymm (c .loop-test .left) (l .inv .0)) (l .inv .2)))
 
 pub data-120-spec : {M : Type 1} → statement M
 data-120-spec =

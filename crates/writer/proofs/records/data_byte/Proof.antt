@@ -15,7 +15,7 @@ front-byte-requires c κs = search needs
 
 returns : tie.Need-returns
 unfolding dataByte
-returns c = rw (lt-ltb _ 19 (c .before .if1 .taken)) (c .front-byte .ensures)
+returns c = rw (lt-ltb _ 19 (c .before .if1 .taken)) (c .front-byte .ensures (c .before .before .before .before .args .kind))
 
 of-requires : tie.Need-of-requires
 of-requires c κs = search needs

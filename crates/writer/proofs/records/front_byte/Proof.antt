@@ -5,14 +5,14 @@ use native.Mathlib.Omega.{arith}
 use Rattle.writer.proofs.records.front_byte.Statement.{statement}
 use Rattle.writer.proofs.records.front_byte.Tie as tie
 
-row-over-requires : tie.Need-row-over-requires
-row-over-requires c κs = search needs
+front-row-requires : tie.Need-front-row-requires
+front-row-requires c κs = search needs
 
 past-requires : tie.Need-past-requires
 past-requires c κs = search needs
 
 digit-at-requires : tie.Need-digit-at-requires
-digit-at-requires c κs = omega (arith, c .before .row-over .ensures .1)
+digit-at-requires c κs = omega (arith, c .before .front-row .ensures .1)
 
 byte-requires : tie.Need-byte-requires
 byte-requires c κs = search needs
@@ -22,16 +22,16 @@ fill-requires c κs = search needs
 
 returns : tie.Need-returns
 unfolding frontFill
-returns c =
+returns c k =
     let r = c .before .before .before .before in
-    rw (← r .row-over .ensures .0, ← c .before .before .before .past .ensures, ← c .before .before .digit-at .ensures, ← c .before .byte .ensures .0)
+    rw (← r .front-row .ensures .0 k, ← c .before .before .before .past .ensures, ← c .before .before .digit-at .ensures, ← c .before .byte .ensures .0)
     (c .fill .ensures)
 
 pub front-byte-spec : {M : Type 1} → statement M
 front-byte-spec =
     tie.close
     (tie.spec
-    row-over-requires
+    front-row-requires
     past-requires
     digit-at-requires
     byte-requires

@@ -1,6 +1,5 @@
 -- One byte after the other.
 use Prim.Native.Nat.{_≤_, _-_}
-use Rattle.tables.specs.declared.kinds.Kind.the-variants.{EB13}
 use Rattle.laws.proofs.Tabs.{tab-start, tab-more, tab-end}
 use Rattle.laws.specs.Tabulate.{tabulate}
 use Rattle.writer.specs.Records.{headOf, headerByte, headerBuilt}
@@ -14,13 +13,13 @@ use Rattle.writer.proofs.records.header_120.Statement.{statement}
 use Rattle.writer.proofs.records.header_120.Tie as tie
 
 abbrev Inv-loop : tie.InvT-loop
-Inv-loop date code item6 item7 rec₀ j₀ rec j = (j ≤ 120) × (length rec ≡ 120) × (take j rec ≡ tabulate (headerByte EB13 (headOf date code item6 item7)) j)
+Inv-loop kind date code item6 item7 rec₀ j₀ rec j = (j ≤ 120) × (length rec ≡ 120) × (take j rec ≡ tabulate (headerByte kind (headOf date code item6 item7)) j)
 
 abbrev μ-loop : tie.MeasureT-loop
-μ-loop date code item6 item7 rec₀ j₀ rec j = 120 - j
+μ-loop kind date code item6 item7 rec₀ j₀ rec j = 120 - j
 
 loop-holds : tie.Need-loop-holds Inv-loop μ-loop
-loop-holds c = (search needs, refl, tab-start (headerByte EB13 _) [])
+loop-holds c = (search needs, refl, tab-start (headerByte _ _) [])
 
 header-byte-requires : tie.Need-header-byte-requires Inv-loop μ-loop
 header-byte-requires c κs = search needs
@@ -43,7 +42,7 @@ returns : tie.Need-returns Inv-loop μ-loop
 unfolding headerBuilt
 returns c =
     let l = c .before .loop in
-    tab-end _ (l .rec) 120 (l .inv .1) (rw (le-antisymm (c .loop-test .left) (l .inv .0)) (l .inv .2))
+    rw (c .before .before .before .before .before .before .pre) (tab-end _ (l .rec) 120 (l .inv .1) (rw (le-antisymm (c .loop-test .left) (l .inv .0)) (l .inv .2)))
 
 pub header-120-spec : {M : Type 1} → statement M
 header-120-spec =

@@ -1,6 +1,5 @@
 -- One byte after the other.
 use Prim.Native.Nat.{_≤_, _-_}
-use Rattle.tables.specs.declared.kinds.Kind.the-variants.{EB13}
 use Rattle.laws.proofs.Tabs.{tab-start, tab-more, tab-end}
 use Rattle.laws.specs.Tabulate.{tabulate}
 use Rattle.writer.specs.Records.{trailerByte, trailerBuilt}
@@ -14,13 +13,13 @@ use Rattle.writer.proofs.records.trailer_120.Statement.{statement}
 use Rattle.writer.proofs.records.trailer_120.Tie as tie
 
 abbrev Inv-loop : tie.InvT-loop
-Inv-loop header sums rec₀ j₀ rec j = (j ≤ 120) × (length rec ≡ 120) × (take j rec ≡ tabulate (trailerByte EB13 header sums) j)
+Inv-loop kind header sums rec₀ j₀ rec j = (j ≤ 120) × (length rec ≡ 120) × (take j rec ≡ tabulate (trailerByte kind header sums) j)
 
 abbrev μ-loop : tie.MeasureT-loop
-μ-loop header sums rec₀ j₀ rec j = 120 - j
+μ-loop kind header sums rec₀ j₀ rec j = 120 - j
 
 loop-holds : tie.Need-loop-holds Inv-loop μ-loop
-loop-holds c = (search needs, refl, tab-start (trailerByte EB13 _ _) [])
+loop-holds c = (search needs, refl, tab-start (trailerByte _ _ _) [])
 
 trailer-byte-requires : tie.Need-trailer-byte-requires Inv-loop μ-loop
 trailer-byte-requires c κs = search needs
@@ -43,7 +42,7 @@ returns : tie.Need-returns Inv-loop μ-loop
 unfolding trailerBuilt
 returns c =
     let l = c .before .loop in
-    tab-end _ (l .rec) 120 (l .inv .1) (rw (le-antisymm (c .loop-test .left) (l .inv .0)) (l .inv .2))
+    rw (c .before .before .before .pre) (tab-end _ (l .rec) 120 (l .inv .1) (rw (le-antisymm (c .loop-test .left) (l .inv .0)) (l .inv .2)))
 
 pub trailer-120-spec : {M : Type 1} → statement M
 trailer-120-spec =

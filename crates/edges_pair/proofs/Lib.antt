@@ -1,2 +1,0 @@
--- Laws that the proofs cite.
-pub mod Shorter

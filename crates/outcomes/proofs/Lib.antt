@@ -1,0 +1,5 @@
+-- Laws about the definitions of specs/.
+pub mod Outcome
+pub mod Guess
+pub mod Named
+pub mod Marking

@@ -1,0 +1,39 @@
+-- The marked edge cases, computed: the definitions say what the paper says.
+-- Assumes nothing.
+use mathlib.Core.List.{map}
+use mathlib.Core.Path.{_≡_, refl}
+use Rattle.laws.specs.Least.{least, further, some, none}
+use Rattle.laws.specs.Part.{part, differ, same}
+use Rattle.laws.specs.Sum.{sum}
+use Rattle.text.specs.Characters.{within, takes, stopsAt, front, each, digits, spaces, zeros, codeText, filled}
+use Rattle.text.specs.Numbers.{digitOf, valueTo, valueOf, digitsOf, says, wordOf}
+use Rattle.text.specs.Dates.{monthDays, leapDay, daysOf, hasDay, isDate}
+use Rattle.tables.specs.Kinds.{kindOf}
+use Rattle.tables.specs.Codes.{bankCodes, centreCodes, tableCodes, codeIs, isTableCode}
+use Rattle.tables.specs.Tables.{headerFront, debitHeader, dataFront, debitData, eb21Data, eb22Data, trailerFront, eb21Trailer, eb22Trailer}
+use Rattle.tables.specs.Totals.{eb21Totals, eb22Totals}
+use Rattle.tables.specs.Copied.{among, itemsBut, debitCopied}
+use Rattle.layout.specs.Answers.{refuses, _then_, refusesAt, toldAt, firstTold}
+use Rattle.layout.specs.Rules.{institution, failed, partly, enough, meets, holds}
+use Rattle.layout.specs.Judging.{rowTells, judgeBy, judgeOf}
+use Rattle.reader.specs.Records.{recordAt, countOf, roleOf, judgedAt, recordsTell}
+use Rattle.reader.specs.Totals.{worth, worthAt, quantityOf, totalHolds, totalTells, totalsTell}
+use Rattle.reader.specs.Keys.{keyAt, repeats, repeatTold, keysTell}
+use Rattle.reader.specs.Reading.{isWhole, lengthTells, readAs, readOf}
+use Rattle.reader.specs.Samples.{all, code, letters, headerRest, headerFor, trailerFor, noTotals, emptyOn}
+use Rattle.terms.specs.Kinds.{pairOf}
+use Rattle.terms.specs.Items.{headerItems, agrees, itemTells, itemsTell}
+use Rattle.terms.specs.Amounts.{bases, baseOf, possible, partOfOne, debitTells}
+use Rattle.terms.specs.Meeting.{meetsTell, headersTell}
+use Rattle.terms.specs.Marks.{markIn, codeIn}
+use Rattle.pair.specs.Matching.{hasKey, placeOf, requestFor, resultFor}
+use Rattle.pair.specs.Amounts.{askedAt, notTakenBy, notTakenAt, takenAt}
+use Rattle.pair.specs.Results.{resultTells, resultsTell}
+use Rattle.pair.specs.Pairing.{roomTells, pairBy, listsFit, pairAs, pairTold}
+use Rattle.outcomes.specs.Outcomes.{failedBy, outcomeAt, asksFor, outcomeAs, outcomeTold}
+use Rattle.outcomes.specs.Samples.{account, payer, passbook, recordFor, requestTotals, requestFile, resultOf, marked, resultTotals, resultFile}
+use Rattle.outcomes.specs.Marked.{Case, ofFile, ofRecord, ofDay, request, ofPair, ofRequest, brokenAccount, cases}
+
+pub marked-cases : map (λ (c : Case). c .said) cases ≡ map (λ (c : Case). c .paper) cases
+unfolding least further some none part differ same sum within takes stopsAt front each digits spaces zeros codeText filled digitOf valueTo valueOf digitsOf says wordOf monthDays leapDay daysOf hasDay isDate kindOf bankCodes centreCodes tableCodes codeIs isTableCode headerFront debitHeader dataFront debitData eb21Data eb22Data trailerFront eb21Trailer eb22Trailer eb21Totals eb22Totals among itemsBut debitCopied refuses _then_ refusesAt toldAt firstTold institution failed partly enough meets holds rowTells judgeBy judgeOf recordAt countOf roleOf judgedAt recordsTell worth worthAt quantityOf totalHolds totalTells totalsTell keyAt repeats repeatTold keysTell isWhole lengthTells readAs readOf all code letters headerRest headerFor trailerFor noTotals emptyOn pairOf headerItems agrees itemTells itemsTell hasKey placeOf requestFor resultFor bases baseOf possible partOfOne debitTells askedAt notTakenBy notTakenAt takenAt meetsTell resultTells resultsTell headersTell roomTells pairBy listsFit pairAs pairTold markIn codeIn failedBy outcomeAt asksFor outcomeAs outcomeTold account payer passbook recordFor requestTotals requestFile resultOf marked resultTotals resultFile ofFile ofRecord ofDay request ofPair ofRequest brokenAccount cases
+marked-cases = refl

@@ -1,0 +1,6 @@
+-- What became of each request.
+pub mod Outcomes
+pub mod Sums
+pub mod Listed
+pub mod Samples
+pub mod Marked

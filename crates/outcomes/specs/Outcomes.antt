@@ -1,0 +1,56 @@
+-- One request's outcome: whole, part with amounts, or refused with its code.
+use Prim.Native.Nat.{ℕ, _+_, _-_}
+use mathlib.Core.Bool.{Bool, true, cond, _&&_}
+use mathlib.Core.List.{List, [], _∷_}
+use lib.Dec.{leb, ltb, eqb}
+use Rattle.layout.specs.declared.answers.Answer.{Answer}
+use Rattle.layout.specs.Answers.{accepted, refused, refuses}
+use Rattle.reader.specs.Records.{recordOf, dataOf}
+use Rattle.terms.specs.declared.kinds.PairKind.{PairKind}
+use Rattle.terms.specs.declared.kinds.PairNamed.{PairNamed}
+use Rattle.terms.specs.declared.kinds.PairNamed.the-variants.{Is, Unknown}
+use Rattle.terms.specs.Kinds.{requestKind, resultKind, pairOf}
+use Rattle.terms.specs.Marks.{markIn, codeIn}
+use Rattle.pair.specs.Matching.{resultFor}
+use Rattle.pair.specs.Amounts.{askedAt, takenAt, notTakenAt}
+use Rattle.pair.specs.Pairing.{pairBy}
+use Rattle.outcomes.specs.declared.cases.Outcome.{Outcome}
+use Rattle.outcomes.specs.declared.cases.Outcome.the-variants.{None, Whole, Part, Refused}
+use Rattle.outcomes.specs.declared.cases.Told.{Told}
+
+-- the paper's numbers of each case: the case, taken, not taken, and the result's code, four spaces where there is none
+abbrev pub fourOf : Outcome → List ℕ
+fourOf None = 0 ∷ 0 ∷ 0 ∷ 0x20202020 ∷ []
+fourOf (Whole taken) = 1 ∷ taken ∷ 0 ∷ 0x20202020 ∷ []
+fourOf (Part taken notTaken code) = 2 ∷ taken ∷ notTaken ∷ code ∷ []
+fourOf (Refused notTaken code) = 3 ∷ 0 ∷ notTaken ∷ code ∷ []
+
+abbrev pub told : Answer → Outcome → Told
+told a o = record { answer = a; outcome = o }
+
+-- "P" is a part, else the whole was refused
+unfoldable pub failedBy : PairKind → List ℕ → ℕ → ℕ → Outcome
+failedBy p rec taken notTaken = cond (eqb (markIn p rec) 0x50) (Part taken notTaken (codeIn p rec)) (Refused notTaken (codeIn p rec))
+
+-- the outcome of request i + 1
+unfoldable pub outcomeAt : PairKind → List ℕ → List ℕ → ℕ → Outcome
+outcomeAt p q r i =
+    cond (ltb (resultFor p q r i) (dataOf (resultKind p) r))
+    (failedBy p (recordOf (resultKind p) r (resultFor p q r i + 1)) (takenAt p q r i) (notTakenAt p q r i))
+    (Whole (askedAt p q i))
+
+-- 15: not one of the requests 1 to n, tested last
+unfoldable pub asksFor : ℕ → ℕ → Bool
+asksFor n rec = leb 1 rec && leb rec n
+
+unfoldable pub outcomeAs : PairKind → List ℕ → List ℕ → ℕ → Told
+outcomeAs p q r rec =
+    cond (refuses (pairBy p q r true)) (told (pairBy p q r true) None)
+    (cond (asksFor (dataOf (requestKind p) q) rec) (told accepted (outcomeAt p q r (rec - 1))) (told (refused 15) None))
+
+abbrev pub outcomeNamed : PairNamed → List ℕ → List ℕ → ℕ → Told
+outcomeNamed (Is p) q r rec = outcomeAs p q r rec
+outcomeNamed Unknown q r rec = told (refused 1) None
+
+unfoldable pub outcomeTold : ℕ → List ℕ → List ℕ → ℕ → Told
+outcomeTold kind q r rec = outcomeNamed (pairOf kind) q r rec

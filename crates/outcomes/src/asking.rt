@@ -1,0 +1,104 @@
+// One request's outcome, with no lists lent.
+ghost use mathlib.Core.Path.{_≡_};
+ghost use Prim.Native.Nat.{_+_, _≤_, _<_};
+ghost use lib.ListN.{length};
+ghost use Rattle.reader.specs.Records.{countOf};
+ghost use Rattle.terms.specs.Kinds.{requestKind, markStart};
+ghost use Rattle.pair.specs.Matching.{resultFor};
+ghost use Rattle.outcomes.specs.Outcomes.{told, failedBy, outcomeAt, asksFor, outcomeAs, outcomeTold};
+use crate::cases::Outcome;
+use crate::cases::Told;
+use layout::answers::Answer;
+use pair::amounts;
+use pair::matching;
+use pair::pairing;
+use reader::records;
+use terms::kinds;
+use terms::kinds::PairKind;
+use terms::kinds::PairNamed;
+use text::numbers;
+use text::parts;
+
+// Where a result's mark stands in its record; its code follows.
+fn mark_start(pair: PairKind) -> usize
+    ensures { λ r. ⌜ r ≡ markStart pair ⌝ }
+{
+    match pair {
+        PairKind::Enrolment => 91,
+        PairKind::Debit => 68,
+    }
+}
+
+// "P" is a part, else the whole was refused.
+fn failed_by(pair: PairKind, rec: &[u8], taken: u64, not_taken: u64) -> Outcome
+    requires { ⌜ 120 ≤ length (now rec) ⌝ }
+    ensures { λ r. ⌜ r ≡ failedBy pair (now (rec .entry)) taken «not_taken» ⌝ }
+{
+    let mark = mark_start(pair);
+    let code = numbers::word(parts::part(rec, mark + 1, 4));
+    if parts::byte(rec, mark) == b'P' {
+        return Outcome::Part(taken, not_taken, code);
+    }
+    Outcome::Refused(not_taken, code)
+}
+
+// The outcome of request i + 1, whose result, if it has one, is j + 1.
+pub fn outcome_at(pair: PairKind, request: &[u8], result: &[u8], i: usize, j: usize) -> Outcome
+    requires { ⌜ i + 1 < countOf (requestKind pair) (now request) ⌝ }
+    requires { ⌜ j ≡ resultFor pair (now request) (now result) i ⌝ }
+    ensures { λ r. ⌜ r ≡ outcomeAt pair (now (request .entry)) (now (result .entry)) i ⌝ }
+{
+    let kind = kinds::result_kind(pair);
+    let asked = amounts::asked_at(pair, request, i);
+    if j < records::data_count(kind, result) {
+        let left = amounts::not_taken_by(pair, result, j);
+        return failed_by(
+            pair,
+            records::record_of(kind, result, j + 1),
+            amounts::rest(asked, left),
+            left,
+        );
+    }
+    Outcome::Whole(asked)
+}
+
+fn told(answer: Answer, outcome: Outcome) -> Told
+    ensures { λ r. ⌜ r ≡ told answer outcome ⌝ }
+{
+    Told { answer, outcome }
+}
+
+// The record is one of the requests 1 to n.
+fn asks_for(n: u64, rec: u64) -> bool
+    ensures { λ r. ⌜ r ≡ asksFor n rec ⌝ }
+{
+    1 <= rec && rec <= n
+}
+
+fn outcome_as(pair: PairKind, request: &[u8], result: &[u8], rec: u64) -> Told
+    ensures { λ r. ⌜ r ≡ outcomeAs pair (now (request .entry)) (now (result .entry)) rec ⌝ }
+{
+    let answer = pairing::pair_by(pair, request, result, true);
+    if answer.number != 0 {
+        return told(answer, Outcome::None);
+    }
+    let n = records::data_count(kinds::request_kind(pair), request);
+    if asks_for(n as u64, rec) {
+        let i = (rec - 1) as usize;
+        let results = matching::results_for(pair, request, result);
+        let outcome = outcome_at(pair, request, result, i, results[i]);
+        return told(Answer::accepted(), outcome);
+    }
+    told(Answer::refused(15), Outcome::None)
+}
+
+// What became of one request, by its record number.
+pub fn outcome(kind: u64, request: &[u8], result: &[u8], rec: u64) -> Told
+    ensures { λ r. ⌜ r ≡ outcomeTold kind (now (request .entry)) (now (result .entry)) rec ⌝ }
+{
+    let named = kinds::pair_of(kind);
+    match named {
+        PairNamed::Is(known) => outcome_as(known, request, result, rec),
+        PairNamed::Unknown => told(Answer::refused(1), Outcome::None),
+    }
+}

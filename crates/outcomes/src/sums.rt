@@ -1,0 +1,44 @@
+// What all requests asked, what was taken and what was not.
+ghost use mathlib.Core.Path.{_≡_};
+ghost use Prim.Native.Nat.{_+_, _≤_};
+ghost use Rattle.tables.specs.Kinds.{limit};
+ghost use Rattle.reader.specs.Records.{countOf};
+ghost use Rattle.terms.specs.Kinds.{requestKind};
+ghost use Rattle.pair.specs.Matching.{resultsFor};
+ghost use Rattle.outcomes.specs.Sums.{sumsOf};
+use pair::amounts;
+use reader::records;
+use terms::kinds;
+use terms::kinds::PairKind;
+
+pub struct Sums {
+    pub asked: u64,
+    pub taken: u64,
+    pub not_taken: u64,
+}
+
+// True sums over all requests, whose results were found; they fit since there are few.
+pub fn sums_of(pair: PairKind, request: &[u8], result: &[u8], results: &[usize]) -> Sums
+    requires { ⌜ countOf (requestKind pair) (now request) ≤ limit + 2 ⌝ }
+    requires { ⌜ now results ≡ resultsFor pair (now request) (now result) ⌝ }
+    ensures { λ r. ⌜ r ≡ sumsOf pair (now (request .entry)) (now (result .entry)) ⌝ }
+{
+    let n = records::data_count(kinds::request_kind(pair), request);
+    let mut asked: u64 = 0;
+    let mut taken: u64 = 0;
+    let mut not_taken: u64 = 0;
+    let mut i = 0;
+    while i < n {
+        let all = amounts::asked_at(pair, request, i);
+        let left = amounts::not_taken_by(pair, result, results[i]);
+        asked += all;
+        taken += amounts::rest(all, left);
+        not_taken += left;
+        i += 1;
+    }
+    Sums {
+        asked,
+        taken,
+        not_taken,
+    }
+}

@@ -1,0 +1,2 @@
+-- Laws about rows laid out.
+pub mod Laying

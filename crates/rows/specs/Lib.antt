@@ -1,0 +1,2 @@
+-- How a record's rows are laid out.
+pub mod Laid

@@ -1,0 +1,14 @@
+-- How many items a result copies, each table computed once.
+-- Assumes nothing.
+use mathlib.Core.Path.{_≡_, refl}
+use lib.ListN.{length}
+use Rattle.tables.specs.Copied.{among, itemsBut, enrolmentCopied, debitCopied}
+use Rattle.tables.specs.Tables.{dataFront, enrolmentData, debitData, eb13Data, eb21Data}
+
+pub enrolment-count : length enrolmentCopied ≡ 13
+unfolding enrolmentCopied itemsBut among eb13Data enrolmentData dataFront
+enrolment-count = refl
+
+pub debit-count : length debitCopied ≡ 11
+unfolding debitCopied itemsBut among eb21Data debitData dataFront
+debit-count = refl

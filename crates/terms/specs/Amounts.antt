@@ -1,0 +1,40 @@
+-- Which amounts of a request and its result are possible.
+use Prim.Native.Nat.{ℕ, _-_}
+use mathlib.Core.Bool.{Bool, cond, _&&_}
+use mathlib.Core.List.{List, [], _∷_}
+use lib.Dec.{leb, ltb, eqb}
+use lib.ListN.{getD}
+use Rattle.tables.specs.Kinds.{fixedOf}
+use Rattle.layout.specs.declared.answers.Answer.{Answer}
+use Rattle.layout.specs.Answers.{accepted, refusedAt}
+use Rattle.layout.specs.Items.{amountOf, markOf, typeOf}
+use Rattle.terms.specs.declared.kinds.PairKind.{PairKind}
+use Rattle.terms.specs.declared.kinds.PairKind.the-variants.{Enrolment, Debit}
+use Rattle.terms.specs.Kinds.{requestKind}
+
+-- the least that a part payment may take, for types "1" to "6"; type "1" takes none
+unfoldable pub bases : List ℕ
+bases = 0 ∷ 1000 ∷ 2000 ∷ 3000 ∷ 4000 ∷ 5000 ∷ []
+
+-- the base of a type; that of "0" is the least amount that may be asked
+unfoldable pub baseOf : ℕ → ℕ → ℕ
+baseOf least type = cond (eqb type 0x30) least (getD bases (type - 0x31) 0)
+
+-- "N": all of the a won was not taken; else u of them, fewer than a, and what was taken reaches the base
+unfoldable pub possible : ℕ → ℕ → ℕ → ℕ → ℕ → Bool
+possible least type mark a u = cond (eqb mark 0x4E) (eqb u a) (ltb u a && leb (baseOf least type) (a - u))
+
+-- "P" on type "1"
+unfoldable pub partOfOne : ℕ → ℕ → Bool
+partOfOne mark type = eqb mark 0x50 && eqb type 0x31
+
+-- that is refused at item 13, before the amounts; what is not possible at item 6
+unfoldable pub debitTells : ℕ → ℕ → List ℕ → List ℕ → Answer
+debitTells least rec request result =
+    cond (partOfOne (markOf result) (typeOf request)) (refusedAt 14 rec 13 0x30303030)
+    (cond (possible least (typeOf request) (markOf result) (amountOf request) (amountOf result)) accepted (refusedAt 14 rec 6 0x30303030))
+
+-- an enrolment has no amounts
+abbrev pub amountsTell : PairKind → ℕ → List ℕ → List ℕ → Answer
+amountsTell Enrolment rec request result = accepted
+amountsTell Debit rec request result = debitTells (fixedOf (requestKind Debit) .least) rec request result

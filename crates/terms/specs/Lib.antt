@@ -1,0 +1,8 @@
+-- The pair kinds, and what one result record may say of its request.
+pub mod Kinds
+pub mod Items
+pub mod Amounts
+pub mod Meeting
+pub mod Marks
+pub mod Same
+pub mod Possible

@@ -1,0 +1,47 @@
+-- What it is that the amounts of a request and its result are possible, and why they are not.
+use Prim.Native.Nat.{ℕ, _-_, _≤_, _<_}
+use mathlib.Core.List.{List}
+use mathlib.Core.Path.{_≡_}
+use Rattle.tables.specs.Kinds.{fixedOf}
+use Rattle.layout.specs.Items.{amountOf, markOf, typeOf}
+use Rattle.layout.specs.declared.answers.Answer.{Answer}
+use Rattle.layout.specs.Answers.{refusedAt}
+use Rattle.terms.specs.declared.kinds.PairKind.{PairKind}
+use Rattle.terms.specs.declared.kinds.PairKind.the-variants.{Enrolment, Debit}
+use Rattle.terms.specs.Kinds.{requestKind}
+use Rattle.terms.specs.Amounts.{baseOf}
+
+-- what a part payment of the request must take at least
+abbrev pub baseFor : List ℕ → ℕ
+baseFor request = baseOf (fixedOf (requestKind Debit) .least) (typeOf request)
+
+-- the amounts of a request and its result are possible
+pub data Possible : PairKind → List ℕ → List ℕ → Type 0 where
+  -- an enrolment has no amounts
+  enrolled : {request result : List ℕ} → Possible Enrolment request result
+  -- "N": nothing was taken
+  nothing : {request result : List ℕ} → markOf result ≡ 0x4E → amountOf result ≡ amountOf request → Possible Debit request result
+  -- "P": a part was not taken, never of type "1", and what was taken reaches the base of the type
+  some : {request result : List ℕ} → markOf result ≡ 0x50 → (typeOf request ≡ 0x31 → ⊥) → 0 < amountOf result → amountOf result < amountOf request →
+      baseFor request ≤ amountOf request - amountOf result → Possible Debit request result
+
+-- why the amounts of a debit are not possible: "P" on type "1"
+pub data OnTypeOne : PairKind → List ℕ → List ℕ → Type 0 where
+  one : {request result : List ℕ} → markOf result ≡ 0x50 → typeOf request ≡ 0x31 → OnTypeOne Debit request result
+
+-- or an amount that cannot be
+pub data Impossible : PairKind → List ℕ → List ℕ → Type 0 where
+  -- "N" with another amount than was asked
+  other : {request result : List ℕ} → markOf result ≡ 0x4E → (amountOf result ≡ amountOf request → ⊥) → Impossible Debit request result
+  -- "P" with no less than was asked
+  none : {request result : List ℕ} → markOf result ≡ 0x50 → amountOf request ≤ amountOf result → Impossible Debit request result
+  -- "P" that takes less than the base
+  under : {request result : List ℕ} → markOf result ≡ 0x50 → amountOf result < amountOf request →
+      amountOf request - amountOf result < baseFor request → Impossible Debit request result
+
+-- 14: why the amounts of result record `rec` are refused
+pub data AmountsRefused (p : PairKind) (rec : ℕ) (request result : List ℕ) : Answer → Type 0 where
+  -- "P" on type "1"
+  typeOne : OnTypeOne p request result → AmountsRefused p rec request result (refusedAt 14 rec 13 0x30303030)
+  -- it is not, and the amount is impossible
+  amount : (OnTypeOne p request result → ⊥) → Impossible p request result → AmountsRefused p rec request result (refusedAt 14 rec 6 0x30303030)

@@ -1,0 +1,2 @@
+-- What stands between marks.
+pub mod Fields

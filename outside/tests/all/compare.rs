@@ -1,0 +1,339 @@
+//! The reference against the proved library: every file is read by both.
+//!
+//! `OUTSIDE_SEED` and `OUTSIDE_COUNT` choose the generated files.
+
+use super::common::{check_coverage, good_file, keep, put, shown};
+use outside::coverage::{Counter, Operation};
+use outside::gen::{self, Rng};
+use outside::layout::{Kind, PairKind, MOST_RECORDS};
+use outside::shrink::shrink;
+use outside::{proved, read, settings, write, Answer};
+
+// ------------------------------------------------------------------ one file
+
+/// The answer of both, which must be one.
+fn compare(kind: u32, file: &[u8]) -> Answer {
+    let told = read(kind, file);
+    if !same_as_proved(&told, kind, file) {
+        report(kind, file);
+    }
+    told
+}
+
+/// Every number is the same, and no lent memory was changed but the answer.
+fn same_as_proved(told: &Answer, kind: u32, file: &[u8]) -> bool {
+    proved::try_read(kind, file) == Ok(told.five())
+}
+
+/// Fails with the smallest file that shows a difference.
+fn report(kind: u32, file: &[u8]) -> ! {
+    let smallest = shrink(Kind::known(kind), file, |file| !same_as_proved(&read(kind, file), kind, file));
+    let path = keep(&format!("differs-as-{kind:08x}"), &smallest);
+    let reference = shown(&read(kind, &smallest).five());
+    let proved = match proved::try_read(kind, &smallest) {
+        Ok(five) => shown(&five),
+        Err(breach) => breach.to_string(),
+    };
+    panic!(
+        "the two differ on a file of {} bytes (shrunk from {}), read as kind {kind:#010x}\n\
+         reference: {reference}\nproved:    {proved}\nthe file:  {}",
+        smallest.len(),
+        file.len(),
+        path.display()
+    );
+}
+
+// ------------------------------------------------------------ generated files
+
+struct Run {
+    rng: Rng,
+    counter: Counter,
+    reads: u64,
+    most_accepted: usize,
+    most: usize,
+}
+
+#[test]
+fn generated_files() {
+    let (seed, count) = (settings::seed(), settings::count(200_000));
+    let counter = Counter::of(|operation| matches!(operation, Operation::Read(_)));
+    let mut run = Run { rng: Rng::new(seed), counter, reads: 0, most_accepted: 0, most: 0 };
+    for _ in 0..count {
+        let file = any_file(&mut run.rng);
+        run.read_as_each_kind(&file);
+    }
+    println!("seed {seed}, {count} files, {} reads by both", run.reads);
+    println!("most data records: {} accepted, {} refused", run.most_accepted, run.most);
+    check_coverage(&run.counter, count);
+}
+
+impl Run {
+    fn read_as_each_kind(&mut self, file: &[u8]) {
+        for kind in Kind::ALL {
+            self.read_as(kind.number(), file);
+        }
+        let unknown = gen::unknown_kind(&mut self.rng);
+        self.read_as(unknown, file);
+    }
+
+    fn read_as(&mut self, number: u32, file: &[u8]) {
+        let told = compare(number, file);
+        let kind = Kind::known(number);
+        let n = kind.map_or(0, |kind| gen::data_records(kind.record_length(), file));
+        self.counter.note(Operation::Read(kind), &told, n as u64);
+        self.reads += 1;
+        let most = if told.is_accepted() { &mut self.most_accepted } else { &mut self.most };
+        *most = n.max(*most);
+    }
+}
+
+/// A file by itself, one of a pair, or what the writer leaves in its room.
+fn any_file(rng: &mut Rng) -> Vec<u8> {
+    match rng.below(10) {
+        0 => gen::any_pair(rng).1,
+        1 => gen::any_pair(rng).2,
+        2 => any_written(rng),
+        _ => gen::any_file(rng).1,
+    }
+}
+
+fn any_written(rng: &mut Rng) -> Vec<u8> {
+    let mut input = gen::any_write(rng);
+    let gen::WriteInput { kind, date, code, item6, item7, bodies, room } = &mut input;
+    write(*kind, date, code, item6, item7, bodies, room);
+    input.room
+}
+
+// ------------------------------------------------------------------ every one
+
+// Where items start in their record.
+const NAME_DAY: usize = 23;
+const HEADER_DATE: usize = 27;
+const ENROLMENT_DATE: usize = 19;
+const ENROLMENT_KIND: usize = 25;
+const ENROLMENT_PAYER: usize = 26;
+const ENROLMENT_BIRTH: usize = 69;
+const ENROLMENT_RESULT: usize = 91;
+const DEBIT_AMOUNT: usize = 42;
+const DEBIT_RESULT: usize = 68;
+const DEBIT_PAYER: usize = 91;
+const DEBIT_USE: usize = 111;
+const DEBIT_TYPE: usize = 116;
+
+/// One good record n times: only the keys are at fault.
+fn same_records(rng: &mut Rng, kind: Kind, n: usize) -> Vec<u8> {
+    let length = kind.record_length();
+    let one = good_file(rng, kind, 1);
+    let mut file = [&one[..length], &one[length..2 * length].repeat(n), &one[2 * length..]].concat();
+    mend(kind, &mut file);
+    file
+}
+
+/// Serials and totals put right, with amounts whose sum fits its item whatever was repeated.
+fn mend(kind: Kind, file: &mut [u8]) {
+    if kind.pair() == PairKind::Debit {
+        let last = file.len() / kind.record_length() - 1;
+        for record in 1..last {
+            put(file, record * kind.record_length() + DEBIT_AMOUNT, b"0000000001000");
+        }
+    }
+    gen::mend_serials(kind, file);
+    gen::mend_totals(kind, file);
+}
+
+#[test]
+fn every_byte_at_every_place() {
+    let mut rng = Rng::new(settings::seed());
+    for kind in Kind::ALL {
+        let good = good_file(&mut rng, kind, 2);
+        for place in 0..good.len() {
+            let mut file = good.clone();
+            for byte in 0..=255 {
+                file[place] = byte;
+                compare(kind.number(), &file);
+            }
+        }
+    }
+}
+
+/// Whichever two items are at fault, both tell of the same one.
+#[test]
+fn every_two_faults() {
+    let mut rng = Rng::new(settings::seed());
+    for kind in Kind::ALL {
+        for good in [good_file(&mut rng, kind, 2), same_records(&mut rng, kind, 2)] {
+            let faults = faults(kind, &good, 2);
+            for (before, one) in faults.iter().enumerate() {
+                for other in &faults[..=before] {
+                    let mut file = good.clone();
+                    put(&mut file, one.0, &one.1);
+                    put(&mut file, other.0, &other.1);
+                    compare(kind.number(), &file);
+                }
+            }
+        }
+    }
+}
+
+/// Every item of a file of n data records, spoiled in some ways: where, and the new text.
+fn faults(kind: Kind, file: &[u8], n: usize) -> Vec<(usize, Vec<u8>)> {
+    let records = [vec![kind.header()], vec![kind.data(); n], vec![kind.trailer()]].concat();
+    let mut faults = vec![];
+    let mut start = 0;
+    for &length in records.into_iter().flatten() {
+        let item = &file[start..start + length];
+        faults.extend(other_texts(item).map(|text| (start, text)));
+        start += length;
+    }
+    faults
+}
+
+/// Nothing, zeros, capitals, a byte of no class, and one more.
+fn other_texts(item: &[u8]) -> [Vec<u8>; 5] {
+    let [mut strange, mut more] = [item.to_vec(), item.to_vec()];
+    strange[0] = 1;
+    let last = more.len() - 1;
+    more[last] = if more[last] == b'9' { b'0' } else { more[last].wrapping_add(1) };
+    [vec![b' '; item.len()], vec![b'0'; item.len()], vec![b'Z'; item.len()], strange, more]
+}
+
+/// Five records with every choice of four payers and of two texts in the key's other item.
+#[test]
+fn every_pattern_of_keys() {
+    let mut rng = Rng::new(settings::seed());
+    for kind in Kind::ALL {
+        let mut file = same_records(&mut rng, kind, 5);
+        for pattern in 0..8_usize.pow(5) {
+            for record in 0..5 {
+                let start = (record + 1) * kind.record_length();
+                put_key(kind.pair(), &mut file[start..], pattern >> (3 * record) & 7);
+            }
+            gen::mend_totals(kind, &mut file);
+            assert!([0, 7].contains(&compare(kind.number(), &file).number));
+        }
+    }
+}
+
+/// One of eight keys.
+fn put_key(pair: PairKind, record: &mut [u8], choice: usize) {
+    let (payer, other) = (format!("{:<20}", choice % 4), choice / 4);
+    match pair {
+        PairKind::Enrolment => {
+            put(record, ENROLMENT_PAYER, payer.as_bytes());
+            put(record, ENROLMENT_KIND, &[b"17"[other]]);
+            // These kinds want it filled.
+            put(record, ENROLMENT_BIRTH, b"8");
+        }
+        PairKind::Debit => {
+            put(record, DEBIT_PAYER, payer.as_bytes());
+            put(record, DEBIT_USE, [b"     ", b"    2"][other]);
+        }
+    }
+}
+
+#[test]
+fn every_number_of_records() {
+    let mut rng = Rng::new(settings::seed());
+    for kind in Kind::ALL {
+        for n in 0..=MOST_RECORDS + 2 {
+            let mut file = good_file(&mut rng, kind, n);
+            let number = if n > MOST_RECORDS { 3 } else { 0 };
+            assert_eq!(compare(kind.number(), &file), Answer::without_place(number));
+            compare(kind.number(), &file[1..]);
+            file.push(b' ');
+            assert_eq!(compare(kind.number(), &file), Answer::without_place(2));
+        }
+    }
+}
+
+/// The last data record is also an earlier one.
+#[test]
+fn every_number_of_records_with_a_repeated_key() {
+    let mut rng = Rng::new(settings::seed());
+    for kind in Kind::ALL {
+        let length = kind.record_length();
+        for n in 2..=MOST_RECORDS {
+            let mut file = good_file(&mut rng, kind, n);
+            let earlier = rng.between(1, n as u64 - 1) as usize;
+            file.copy_within(earlier * length..(earlier + 1) * length, n * length);
+            mend(kind, &mut file);
+            assert_eq!(compare(kind.number(), &file), Answer::placed(7, n, kind.pair().key_item()));
+        }
+    }
+}
+
+#[test]
+fn every_beginning_of_a_file() {
+    let mut rng = Rng::new(settings::seed());
+    for kind in Kind::ALL {
+        let file = good_file(&mut rng, kind, 5);
+        for length in 0..file.len() {
+            assert!(!compare(kind.number(), &file[..length]).is_accepted());
+        }
+    }
+}
+
+#[test]
+fn every_header_date() {
+    let mut rng = Rng::new(settings::seed());
+    for kind in Kind::ALL {
+        let mut file = good_file(&mut rng, kind, 0);
+        let mut real = 0;
+        for date in 0..1_000_000 {
+            let date = format!("{date:06}");
+            put(&mut file, HEADER_DATE, date.as_bytes());
+            for record in 0..2 {
+                put(&mut file, record * kind.record_length() + NAME_DAY, &date.as_bytes()[2..]);
+            }
+            real += u64::from(compare(kind.number(), &file).is_accepted());
+        }
+        assert_eq!(real, 36_525, "the days of a hundred years");
+    }
+}
+
+#[test]
+fn every_enrolment_date() {
+    let mut rng = Rng::new(settings::seed());
+    for kind in [Kind::EB13, Kind::EB14] {
+        let mut file = good_file(&mut rng, kind, 1);
+        for date in 0..1_000_000 {
+            put(&mut file, kind.record_length() + ENROLMENT_DATE, format!("{date:06}").as_bytes());
+            compare(kind.number(), &file);
+        }
+    }
+}
+
+/// Every code of sixteen letters, among them those of all table codes.
+#[test]
+fn every_code_of_a_result() {
+    let mut rng = Rng::new(settings::seed());
+    let letters = b"0123456789ABZ@a ";
+    for (kind, start, marks) in [(Kind::EB14, ENROLMENT_RESULT, b"NPn"), (Kind::EB22, DEBIT_RESULT, b"NPp")]
+    {
+        let mut file = good_file(&mut rng, kind, 1);
+        for &mark in marks {
+            for code in 0..16_usize.pow(4) {
+                let [a, b, c, d] = [12, 8, 4, 0].map(|shift| letters[code >> shift & 15]);
+                put(&mut file, kind.record_length() + start, &[mark, a, b, c, d]);
+                gen::mend_totals(kind, &mut file);
+                compare(kind.number(), &file);
+            }
+        }
+    }
+}
+
+#[test]
+fn small_amounts_of_every_type() {
+    let mut rng = Rng::new(settings::seed());
+    for kind in [Kind::EB21, Kind::EB22] {
+        let mut file = good_file(&mut rng, kind, 1);
+        for amount in 0..6_000 {
+            for debit_type in b'0'..=b'7' {
+                put(&mut file, kind.record_length() + DEBIT_AMOUNT, format!("{amount:013}").as_bytes());
+                put(&mut file, kind.record_length() + DEBIT_TYPE, &[debit_type]);
+                gen::mend_totals(kind, &mut file);
+                compare(kind.number(), &file);
+            }
+        }
+    }
+}

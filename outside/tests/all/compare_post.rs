@@ -1,0 +1,140 @@
+//! The reference against the proved library: every pair is posted by both.
+//!
+//! `OUTSIDE_SEED` and `OUTSIDE_COUNT` choose the generated pairs.
+
+use super::common::{check_coverage, good_file, keep};
+use outside::coverage::{Counter, Operation};
+use outside::gen::{self, Rng};
+use outside::layout::{Kind, PairKind};
+use outside::post::{settle_files, LONGEST_FILE};
+use outside::proved::{self, Breach};
+use outside::shrink::shrink;
+use outside::{post, post_into, settings, Answer};
+
+/// How much is stored, and the whole text afterwards.
+type Posted = (u64, Vec<u8>);
+
+/// Bytes that no output has.
+fn unwritten(length: usize) -> Vec<u8> {
+    vec![0xc3; length]
+}
+
+fn ours(request: &[u8], result: &[u8], room: usize) -> Posted {
+    let mut text = unwritten(room);
+    (post_into(request, result, &mut text), text)
+}
+
+fn theirs(request: &[u8], result: &[u8], room: usize) -> Result<Posted, Breach> {
+    let mut text = unwritten(room);
+    Ok((proved::try_post(request, result, &mut text)?, text))
+}
+
+/// What both store in a text of this length, which must be one.
+fn compare_in(request: &[u8], result: &[u8], room: usize) -> Posted {
+    let posted = ours(request, result, room);
+    if theirs(request, result, room).as_ref() != Ok(&posted) {
+        report(request, result, room);
+    }
+    posted
+}
+
+/// Texts of no length, one too short, exact and too long.
+fn compare(request: &[u8], result: &[u8]) {
+    let exact = post(request, result).len();
+    for room in [0, exact - 1, exact, exact + 9] {
+        compare_in(request, result, room);
+    }
+}
+
+/// Fails with the smallest files that show a difference.
+fn report(request: &[u8], result: &[u8], room: usize) -> ! {
+    let differ =
+        |request: &[u8], result: &[u8]| theirs(request, result, room) != Ok(ours(request, result, room));
+    let result = shrink(Some(Kind::EB22), result, |file| differ(request, file));
+    let request = shrink(Some(Kind::EB21), request, |file| differ(file, &result));
+    let said = |posted: &Posted| format!("{} bytes of {}", posted.0, posted.1.escape_ascii());
+    let reference = said(&ours(&request, &result, room));
+    let proved = match theirs(&request, &result, room) {
+        Ok(posted) => said(&posted),
+        Err(breach) => breach.to_string(),
+    };
+    panic!(
+        "the two differ in a text of {room} bytes\nreference: {reference}\nproved:    {proved}\n\
+         the request: {}\nthe result:  {}",
+        keep("differs-request", &request).display(),
+        keep("differs-result", &result).display()
+    );
+}
+
+#[test]
+fn generated_pairs() {
+    let (seed, count) = (settings::seed(), settings::count(50_000));
+    let mut rng = Rng::new(seed);
+    let mut counter = Counter::of(|operation| *operation == Operation::Post);
+    for _ in 0..count {
+        let (request, result) = debit_pair(&mut rng);
+        compare(&request, &result);
+        let told = settle_files(&request, &result).err().unwrap_or(Answer::accepted());
+        let file = if told.side == 1 { &request } else { &result };
+        counter.note(Operation::Post, &told, gen::data_records(150, file) as u64);
+    }
+    println!("seed {seed}, {count} pairs by both");
+    check_coverage(&counter, count);
+}
+
+/// A pair of which at least one half is meant for a debit.
+fn debit_pair(rng: &mut Rng) -> (Vec<u8>, Vec<u8>) {
+    loop {
+        let (number, request, result) = gen::any_pair(rng);
+        if number == PairKind::Debit.number() || rng.once_in(20) {
+            return (request, result);
+        }
+    }
+}
+
+/// The length that is too long, with files that would be read otherwise.
+#[test]
+fn the_longest_files() {
+    let mut rng = Rng::new(settings::seed());
+    let most = [Kind::EB21, Kind::EB22].map(|kind| good_file(&mut rng, kind, 430));
+    assert_eq!(most[0].len(), LONGEST_FILE);
+    let mut files = vec![vec![], vec![b' '; 150], good_file(&mut rng, Kind::EB21, 0)];
+    for file in most {
+        for more in [0, 1, 150] {
+            files.push([file.clone(), vec![b' '; more]].concat());
+        }
+        files.push(file[1..].to_vec());
+    }
+    for request in &files {
+        for result in &files {
+            compare(request, result);
+        }
+    }
+}
+
+/// Every number of requests, so every width of a line.
+#[test]
+fn every_number_of_requests() {
+    let mut rng = Rng::new(settings::seed());
+    for n in 0..=431 {
+        let request = gen::request_of(&mut rng, Kind::EB21, n);
+        let result = gen::result_of(&mut rng, &request, true);
+        compare(&request.file(), &result.file());
+    }
+}
+
+/// Every length of the text about the lengths of its lines.
+#[test]
+fn every_length_of_the_text() {
+    let mut rng = Rng::new(settings::seed());
+    for n in 0..12 {
+        let request = gen::request_of(&mut rng, Kind::EB21, n);
+        let result = gen::result_of(&mut rng, &request, n % 2 == 0);
+        let exact = post(&request.file(), &result.file()).len();
+        for room in 0..exact + 20 {
+            let (stored, text) = compare_in(&request.file(), &result.file(), room);
+            assert_eq!(stored, if room < exact { 0 } else { exact as u64 });
+            assert_eq!(text[stored as usize..], unwritten(room - stored as usize));
+        }
+    }
+}

@@ -1,0 +1,115 @@
+//! The reference against the proved library: every file is walked by both.
+//!
+//! `OUTSIDE_SEED` and `OUTSIDE_COUNT` choose the generated files.
+
+use super::common::{check_coverage, good_file, keep, shown};
+use outside::coverage::{Counter, Operation};
+use outside::gen::{self, Rng};
+use outside::layout::{Kind, MOST_RECORDS};
+use outside::shrink::shrink;
+use outside::{eight, proved, read, settings, walk, Answer, Step};
+
+/// What both say, which must be one.
+fn compare(kind: u32, file: &[u8], place: u64) -> (Answer, Step) {
+    let said = walk(kind, file, place);
+    if differ(kind, file, place) {
+        report(kind, file, place);
+    }
+    said
+}
+
+fn differ(kind: u32, file: &[u8], place: u64) -> bool {
+    let (told, step) = walk(kind, file, place);
+    proved::try_walk(kind, file, place) != Ok(eight(&told, &step))
+}
+
+/// Fails with the smallest file that shows a difference.
+fn report(kind: u32, file: &[u8], place: u64) -> ! {
+    let smallest = shrink(Kind::known(kind), file, |file| differ(kind, file, place));
+    let (told, step) = walk(kind, &smallest, place);
+    let proved = match proved::try_walk(kind, &smallest, place) {
+        Ok(numbers) => shown(&numbers),
+        Err(breach) => breach.to_string(),
+    };
+    panic!(
+        "the two differ at place {place} of a file of kind {kind:#010x}\nreference: {}\nproved:    {proved}\n\
+         the file:  {}",
+        shown(&eight(&told, &step)),
+        keep("differs-walked", &smallest).display()
+    );
+}
+
+/// Places past every file, and those that a narrower number would take for small ones.
+const LARGE: [u64; 8] = [430, 431, 1 << 32, (1 << 32) + 1, (1 << 63) - 1, 1 << 63, u64::MAX - 1, u64::MAX];
+
+#[test]
+fn generated_files() {
+    let (seed, count) = (settings::seed(), settings::count(50_000));
+    let mut rng = Rng::new(seed);
+    let mut counter = Counter::of(|operation| matches!(operation, Operation::Walk(_)));
+    let (mut walks, mut records, mut ends) = (0, 0, 0);
+    for _ in 0..count {
+        let (number, file) = gen::any_file(&mut rng);
+        let kind = Kind::known(number);
+        let n = kind.map_or(0, |kind| gen::data_records(kind.record_length(), &file));
+        let mut places: Vec<u64> = vec![gen::any_place(&mut rng, n), rng.pick(&LARGE)];
+        if n <= 4 {
+            places.extend(0..=n as u64 + 1);
+        }
+        for place in places {
+            let (told, step) = compare(number, &file, place);
+            counter.note(Operation::Walk(kind), &told, n as u64);
+            walks += 1;
+            records += u64::from(matches!(step, Step::Record { .. }));
+            ends += u64::from(step == Step::End);
+        }
+    }
+    println!("seed {seed}, {count} files, {walks} walks by both: {records} records, {ends} ends");
+    assert!(count == 0 || records > 0 && ends > 0);
+    check_coverage(&counter, count);
+}
+
+/// Record after record of files of every size, then the end each time.
+#[test]
+fn every_number_of_records() {
+    let mut rng = Rng::new(settings::seed());
+    for kind in Kind::ALL {
+        let length = kind.record_length() as u64;
+        for n in 0..=MOST_RECORDS + 1 {
+            let file = good_file(&mut rng, kind, n);
+            let n = n as u64;
+            let places = if (20..430).contains(&n) {
+                vec![0, n / 2, n - 1, n, n + 1, u64::MAX]
+            } else {
+                (0..=n + 1).chain(LARGE).collect()
+            };
+            for place in places {
+                let said = compare(kind.number(), &file, place);
+                let expected = if n > MOST_RECORDS as u64 {
+                    (Answer::without_place(3), Step::None)
+                } else if place < n {
+                    (Answer::accepted(), Step::Record { start: (place + 1) * length, length })
+                } else {
+                    (Answer::accepted(), Step::End)
+                };
+                assert_eq!(said, expected);
+            }
+        }
+    }
+}
+
+/// A file that is not accepted is never walked, whatever the place.
+#[test]
+fn every_beginning_of_a_file() {
+    let mut rng = Rng::new(settings::seed());
+    for kind in Kind::ALL {
+        let file = good_file(&mut rng, kind, 3);
+        for length in 0..file.len() {
+            for place in [0, 1, 2, 3, 4, u64::MAX] {
+                let said = compare(kind.number(), &file[..length], place);
+                assert_eq!(said, (read(kind.number(), &file[..length]), Step::None));
+                assert!(!said.0.is_accepted());
+            }
+        }
+    }
+}

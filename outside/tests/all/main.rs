@@ -1,0 +1,12 @@
+//! All tests in one program, so that they run side by side.
+
+mod common;
+mod compare;
+mod compare_pair;
+mod compare_post;
+mod compare_walk;
+mod compare_write;
+mod contracts;
+mod itself;
+mod promises;
+mod samples;
