@@ -25,7 +25,7 @@ pub struct Walked {
 }
 
 // Record k + 1, or the end when k is n or more: no k + 1 is formed there.
-pub fn step_at(kind: Kind, file: &[u8], place: u64) -> Step
+pub(crate) fn step_at(kind: Kind, file: &[u8], place: u64) -> Step
     ensures { λ r. ⌜ r ≡ stepOf kind (now (file .entry)) place ⌝ }
 {
     if place < records::data_count(kind, file) as u64 {
@@ -37,7 +37,7 @@ pub fn step_at(kind: Kind, file: &[u8], place: u64) -> Step
 }
 
 // What is handed out at a place of a file that the reader has answered: the file is not read again.
-pub fn hand(file: &[u8], place: u64, kind: u64, answer: Answer) -> Walked
+pub(crate) fn hand(file: &[u8], place: u64, kind: u64, answer: Answer) -> Walked
     ensures { λ r. ⌜ r ≡ handOf (now (file .entry)) place kind answer ⌝ }
 {
     if answer.number != 0 {
@@ -63,7 +63,7 @@ pub fn hand(file: &[u8], place: u64, kind: u64, answer: Answer) -> Walked
 }
 
 // The place after what was handed out: a record's number, else the same place.
-pub fn place_after(walked: Walked, place: u64) -> u64
+pub(crate) fn place_after(walked: Walked, place: u64) -> u64
     ensures { λ r. ⌜ r ≡ placeAfter (walked .step) place ⌝ }
 {
     let handed = walked.step;
