@@ -3,13 +3,13 @@ ghost use mathlib.Core.Path.{_≡_};
 ghost use Prim.Native.Nat.{_+_, _≤_, _<_};
 ghost use lib.ListN.{length};
 ghost use Rattle.laws.specs.Part.{part};
-ghost use Rattle.tables.specs.Kinds.{fixedOf};
-ghost use Rattle.reader.specs.Records.{recordOf, countOf};
-ghost use Rattle.writer.specs.Files.{size6, size7};
+ghost use Rattle.kinds.specs.Kinds.{fixedOf};
+ghost use Rattle.records.specs.Records.{recordOf, countOf};
+ghost use Rattle.writer.specs.Writing.{size6, size7};
 ghost use Rattle.writer.specs.Apart.{headIn, bodyAt};
-use reader::records;
-use tables::kinds::Fixed;
-use tables::kinds::Kind;
+use kinds::of_files::Fixed;
+use kinds::of_files::Kind;
+use records::listed;
 use text::parts;
 
 // An enrolment has no items 6 and 7.
@@ -42,7 +42,7 @@ fn part_of(kind: Kind, file: &[u8], i: usize, start: usize, size: usize) -> &[u8
     ensures { λ r. ⌜ now r ≡ part start size (recordOf kind (now (file .entry)) i) ⌝ }
     ensures { λ r. ⌜ length (now r) ≡ size ⌝ }
 {
-    parts::part(records::record_of(kind, file, i), start, size)
+    parts::part(listed::record_of(kind, file, i), start, size)
 }
 
 // The date.

@@ -1,7 +1,6 @@
 -- The numbers of an outcome and of a step, one by one.
 -- Assumes nothing.
-use Prim.Native.Nat.{ℕ}
-use mathlib.Core.List.{List, [], _∷_}
+use mathlib.Core.List.{[], _∷_}
 use mathlib.Core.Path.{_≡_, refl}
 use lib.ListN.{getD}
 use Rattle.outcomes.specs.declared.cases.Outcome.{Outcome}

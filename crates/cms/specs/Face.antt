@@ -1,7 +1,7 @@
 -- Answers as numbers: side, number, record, item, code; then what an outcome or a step says.
 use Prim.Native.Nat.{ℕ}
 use mathlib.Core.List.{List, [], _∷_, _++_}
-use Rattle.layout.specs.declared.answers.Answer.{Answer}
+use Rattle.answers.specs.declared.told.Answer.{Answer}
 use Rattle.outcomes.specs.declared.cases.Told.{Told}
 use Rattle.outcomes.specs.Outcomes.{fourOf}
 use Rattle.walker.specs.declared.walking.Walked.{Walked}

@@ -3,7 +3,7 @@ ghost use mathlib.Core.Path.{_≡_};
 ghost use Rattle.outcomes.specs.Outcomes.{fourOf};
 ghost use Rattle.walker.specs.Walks.{threeOf};
 ghost use Rattle.cms.specs.Face.{five, nine, eight};
-use layout::answers::Answer;
+use answers::told::Answer;
 use outcomes::cases::Outcome;
 use outcomes::cases::Told;
 use walker::walking::Step;

@@ -1,14 +1,14 @@
 // A file that was written, taken apart and written again: the same bytes.
 ghost use Prim.Native.Nat.{_+_, _≤_};
-ghost use Rattle.reader.specs.Records.{countOf};
+ghost use Rattle.records.specs.Records.{countOf};
 use crate::files;
 use apart::taking;
+use kinds::of_files;
+use kinds::of_files::Fixed;
+use kinds::of_files::Kind;
+use kinds::of_files::Named;
 use libc::STDOUT_FILENO;
-use reader::records;
-use tables::kinds;
-use tables::kinds::Fixed;
-use tables::kinds::Kind;
-use tables::kinds::Named;
+use records::listed;
 use text::parts;
 use writer::writing;
 
@@ -56,7 +56,7 @@ fn same_again(kind: Kind, file: &[u8], n: usize) -> bool
 }
 
 fn same_as(kind: Kind, file: &[u8]) -> bool {
-    let count = records::count(kind, file);
+    let count = listed::count(kind, file);
     if count < 2 {
         return false;
     }
@@ -67,7 +67,7 @@ fn same_as(kind: Kind, file: &[u8]) -> bool {
 }
 
 pub(crate) fn tell(name: u64, file: &[u8]) {
-    let named = kinds::kind_of(name);
+    let named = of_files::kind_of(name);
     let same = match named {
         Named::Is(kind) => same_as(kind, file),
         Named::Unknown => false,

@@ -1,6 +1,6 @@
 // The line of one case.
 ghost use Prim.Native.Nat.{_≤_, _<_};
-use layout::answers::Answer;
+use answers::told::Answer;
 use libc::STDOUT_FILENO;
 use text::parts;
 

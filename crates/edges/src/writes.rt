@@ -9,7 +9,7 @@ use crate::files;
 use crate::good;
 use crate::told;
 use crate::values;
-use layout::answers::Answer;
+use answers::told::Answer;
 use libc::STDOUT_FILENO;
 use reader::reading;
 use text::parts;

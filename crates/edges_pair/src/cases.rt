@@ -4,7 +4,7 @@ use crate::files;
 use crate::good;
 use crate::told;
 use crate::values;
-use layout::answers::Answer;
+use answers::told::Answer;
 use outcomes::asking;
 use pair::pairing;
 use text::parts;

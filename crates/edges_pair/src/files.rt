@@ -1,7 +1,7 @@
 // Bytes and numbers put into a file that is being built.
 ghost use Prim.Native.Nat.{_≤_, _<_, _^_};
 use crate::values;
-use text::numbers;
+use numbers::base_ten;
 use text::parts;
 
 // The byte that is meant: a word of a case holds no space.
@@ -32,7 +32,7 @@ fn thirteen_digits(n: u64) -> [u8; 13] {
     let mut digits = *b"0000000000000";
     let mut i = 0;
     while i < 13 {
-        digits[i] = numbers::digit_at(n, 13, i);
+        digits[i] = base_ten::digit_at(n, 13, i);
         i += 1;
     }
     digits

@@ -1,9 +1,9 @@
 // The lines of one case.
 ghost use Prim.Native.Nat.{_≤_};
-use layout::answers::Answer;
+use answers::told::Answer;
 use libc::STDOUT_FILENO;
+use numbers::base_ten;
 use outcomes::cases::Outcome;
-use text::numbers;
 
 pub(crate) fn tell_bytes(bytes: &[u8]) {
     io::write_all(STDOUT_FILENO, bytes);
@@ -26,10 +26,10 @@ fn shown(b: u8) -> u8 {
 fn tell_code(code: u64) {
     let word = [
         b' ',
-        shown(numbers::letter(code, 0)),
-        shown(numbers::letter(code, 1)),
-        shown(numbers::letter(code, 2)),
-        shown(numbers::letter(code, 3)),
+        shown(base_ten::letter(code, 0)),
+        shown(base_ten::letter(code, 1)),
+        shown(base_ten::letter(code, 2)),
+        shown(base_ten::letter(code, 3)),
     ];
     tell_bytes(&word);
 }

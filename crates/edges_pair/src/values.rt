@@ -1,13 +1,13 @@
 // What a word of a case says.
 ghost use Prim.Native.Nat.{_<_, _^_};
-use text::numbers;
+use numbers::base_ten;
 
 // The number that a word of at most thirteen digits says; a longer one says nothing.
 pub(crate) fn number(s: &[u8]) -> u64
     ensures { λ r. ⌜ r < 10 ^ 13 ⌝ }
 {
     if s.len() <= 13 {
-        return numbers::number(s);
+        return base_ten::number(s);
     }
     0
 }
@@ -29,5 +29,5 @@ pub(crate) fn kind(s: &[u8]) -> u64 {
     if s.len() < 4 {
         return 0;
     }
-    numbers::word(s)
+    base_ten::word(s)
 }

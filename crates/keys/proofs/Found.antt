@@ -7,7 +7,7 @@ use native.Mathlib.Nat.{le-trans}
 use borrow.Author.Tests.{lt-ltb, le-ltb}
 use lib.ListN.{getD}
 use Rattle.laws.proofs.Tabs.{tab-at}
-use Rattle.tables.specs.Kinds.{limit}
+use Rattle.kinds.specs.Kinds.{limit}
 use Rattle.keys.specs.Keys.{keyIn, placeIn, placeFor, placesIn}
 
 module _ (stride offset size : ℕ) (s : List ℕ) (n : ℕ) (t : List ℕ) (m : ℕ) where

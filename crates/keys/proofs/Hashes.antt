@@ -13,7 +13,7 @@ use Rattle.laws.specs.Part.{same}
 use Rattle.laws.proofs.Bools.{either}
 use Rattle.laws.proofs.Parts.{same-equal}
 use Rattle.laws.proofs.Tabs.{tab-at}
-use Rattle.tables.specs.Kinds.{limit}
+use Rattle.kinds.specs.Kinds.{limit}
 use Rattle.keys.specs.Keys.{keyIn}
 use Rattle.keys.specs.Hashes.{hashTo, hashOf, hashAt, hashesOf}
 

@@ -10,7 +10,7 @@ use lib.ListN.{length, getD, set, replicate, getD-replicate}
 use lib.Seq.{getD-set-same}
 use Rattle.laws.specs.Least.{least}
 use Rattle.laws.proofs.Leasts.{least-none}
-use Rattle.tables.specs.Kinds.{limit}
+use Rattle.kinds.specs.Kinds.{limit}
 use Rattle.keys.specs.Keys.{keyIn, sharesIn, hasKeyIn}
 use Rattle.keys.specs.Hashes.{hashOf, hashesOf, slotCount, Slotted}
 use Rattle.keys.proofs.Hashes.{hash-of, hash-differs}

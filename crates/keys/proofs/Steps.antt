@@ -4,7 +4,7 @@ use Prim.Native.Nat.{ℕ, _+_, _*_, _≤_, _<_}
 use native.Mathlib.Omega.{arith}
 use mir.Syntax.{w64}
 use mir.Val.{Fits}
-use Rattle.tables.specs.Kinds.{limit}
+use Rattle.kinds.specs.Kinds.{limit}
 use Rattle.keys.specs.Hashes.{slotCount}
 
 pub next-fits : (i n : ℕ) → n ≤ limit → i < n → Fits w64 (i + 1)

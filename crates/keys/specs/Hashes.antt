@@ -5,7 +5,7 @@ use mathlib.Core.List.{List}
 use lib.Dec.{ltb}
 use lib.ListN.{length, getD}
 use Rattle.laws.specs.Tabulate.{tabulate}
-use Rattle.tables.specs.Kinds.{limit}
+use Rattle.kinds.specs.Kinds.{limit}
 use Rattle.keys.specs.Keys.{keyIn}
 
 -- a number that keys have in common where they are the same, below 2 ^ 32

@@ -6,7 +6,7 @@ use lib.Dec.{ltb}
 use Rattle.laws.specs.Least.{least, some}
 use Rattle.laws.specs.Part.{part, same}
 use Rattle.laws.specs.Tabulate.{tabulate}
-use Rattle.tables.specs.Kinds.{limit}
+use Rattle.kinds.specs.Kinds.{limit}
 
 -- key i of s, whether keys i and j are the same, whether key i is an earlier one
 unfoldable pub keyIn : ℕ → ℕ → ℕ → List ℕ → ℕ → List ℕ

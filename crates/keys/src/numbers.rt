@@ -5,7 +5,7 @@ ghost use lib.ListN.{length};
 ghost use Rattle.laws.specs.Part.{same};
 ghost use Rattle.keys.specs.Keys.{keyIn};
 ghost use Rattle.keys.specs.Hashes.{hashOf, hashAt, hashesOf};
-use tables::kinds;
+use kinds::of_files::LIMIT;
 use text::parts;
 
 // Where keys stand: one every `stride` bytes from `offset` on, each of `size` bytes.
@@ -48,13 +48,13 @@ fn hash_at(s: &[u8], n: usize, spacing: Spacing, i: usize) -> u64
 }
 
 // The numbers of n keys.
-pub(crate) fn hashes(s: &[u8], n: usize, spacing: Spacing) -> [u64; kinds::LIMIT]
+pub(crate) fn hashes(s: &[u8], n: usize, spacing: Spacing) -> [u64; LIMIT]
     requires { ⌜ ((i : ℕ) → i < n → i * spacing .stride + spacing .offset + spacing .size ≤ length (now s)) ⌝ }
     ensures { λ r. ⌜ r ≡ hashesOf (spacing .stride) (spacing .offset) (spacing .size) (now (s .entry)) n ⌝ }
 {
-    let mut list = [0u64; kinds::LIMIT];
+    let mut list = [0u64; LIMIT];
     let mut i = 0;
-    while i < kinds::LIMIT {
+    while i < LIMIT {
         list[i] = hash_at(s, n, spacing, i);
         i += 1;
     }

@@ -2,20 +2,20 @@
 ghost use mathlib.Core.Path.{_≡_};
 ghost use Prim.Native.Nat.{ℕ, _+_, _*_, _≤_, _<_};
 ghost use lib.ListN.{length};
-ghost use Rattle.tables.specs.Kinds.{limit};
+ghost use Rattle.kinds.specs.Kinds.{limit};
 ghost use Rattle.keys.specs.Keys.{placeIn, placeFor, placesIn};
 ghost use Rattle.keys.specs.Hashes.{hashesOf, Slotted};
 use crate::numbers;
 use crate::numbers::Spacing;
 use crate::slots;
-use tables::kinds;
+use kinds::of_files::LIMIT;
 
 // The first of n keys that is this one; n where none is.
 fn place(
     s: &[u8],
     n: usize,
     spacing: Spacing,
-    hashes: &[u64; kinds::LIMIT],
+    hashes: &[u64; LIMIT],
     slots: &[usize; slots::SLOTS],
     key: &[u8],
 ) -> usize
@@ -41,7 +41,7 @@ fn place_for(
     s: &[u8],
     n: usize,
     spacing: Spacing,
-    hashes: &[u64; kinds::LIMIT],
+    hashes: &[u64; LIMIT],
     slots: &[usize; slots::SLOTS],
     t: &[u8],
     m: usize,
@@ -70,7 +70,7 @@ pub fn places(
     stride: usize,
     offset: usize,
     size: usize,
-) -> [usize; kinds::LIMIT]
+) -> [usize; LIMIT]
     requires { ⌜ n ≤ limit ⌝ }
     requires { ⌜ ((i : ℕ) → i < n → i * stride + offset + size ≤ length (now s)) ⌝ }
     requires { ⌜ ((j : ℕ) → j < m → j * stride + offset + size ≤ length (now t)) ⌝ }
@@ -83,9 +83,9 @@ pub fn places(
     };
     let hashes = numbers::hashes(s, n, spacing);
     let slots = slots::slots(&hashes, n);
-    let mut list = [0usize; kinds::LIMIT];
+    let mut list = [0usize; LIMIT];
     let mut j = 0;
-    while j < kinds::LIMIT {
+    while j < LIMIT {
         list[j] = place_for(s, n, spacing, &hashes, &slots, t, m, j);
         j += 1;
     }

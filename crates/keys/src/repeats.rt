@@ -3,7 +3,7 @@ ghost use mathlib.Core.Path.{_≡_};
 ghost use Prim.Native.Nat.{ℕ, _+_, _*_, _≤_, _<_};
 ghost use lib.ListN.{length};
 ghost use Rattle.laws.specs.Least.{least};
-ghost use Rattle.tables.specs.Kinds.{limit};
+ghost use Rattle.kinds.specs.Kinds.{limit};
 ghost use Rattle.keys.specs.Keys.{repeatsIn};
 use crate::numbers;
 use crate::numbers::Spacing;

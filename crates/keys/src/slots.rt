@@ -1,9 +1,9 @@
 // From where on a key is searched for: no key before its slot has its number.
 ghost use mathlib.Core.Path.{_≡_};
 ghost use Prim.Native.Nat.{_%_, _≤_, _<_};
-ghost use Rattle.tables.specs.Kinds.{limit};
+ghost use Rattle.kinds.specs.Kinds.{limit};
 ghost use Rattle.keys.specs.Hashes.{slotCount, Slotted};
-use tables::kinds;
+use kinds::of_files::LIMIT;
 
 // A prime, so that the numbers of keys that differ in a few digits go to different slots.
 pub(crate) const SLOTS: usize = 1021;
@@ -17,7 +17,7 @@ pub(crate) fn slot(hash: u64) -> usize
 }
 
 // Each of n numbers stands at its slot or after it, from the last number to the first.
-pub(crate) fn slots(hashes: &[u64; kinds::LIMIT], n: usize) -> [usize; SLOTS]
+pub(crate) fn slots(hashes: &[u64; LIMIT], n: usize) -> [usize; SLOTS]
     requires { ⌜ n ≤ limit ⌝ }
     ensures { λ r. ⌜ Slotted (now (hashes .entry)) 0 n r ⌝ }
 {

@@ -3,26 +3,30 @@
 use Prim.Native.Nat.{ℕ, _≤_, _<_}
 use mathlib.Core.Bool.{true, false, cond}
 use mathlib.Core.List.{List}
-use mathlib.Core.Path.{_≡_, ap, sym, _∙_}
+use mathlib.Core.Path.{_≡_, refl, ap, sym, _∙_}
 use mathlib.Core.Logic.{_↔_, ⊎-elim}
-use native.Mathlib.Nat.{le-refl}
+use native.Mathlib.Nat.{eq-or-lt-of-le}
 use native.Mathlib.Omega.{arith}
+use borrow.Author.Tests.{lt-ltb, le-ltb}
 use lib.Dec.{eqb}
-use lib.ListN.{length, getD}
+use lib.ListN.{length, getD, List·getD-eq-default}
 use Rattle.laws.proofs.Bools.{either}
-use Rattle.laws.proofs.Leasts.{least-same}
-use Rattle.layout.specs.declared.answers.Answer.{Answer}
-use Rattle.tables.specs.declared.kinds.Kind.{Kind}
-use Rattle.tables.specs.declared.kinds.Role.{Role}
+use Rattle.laws.specs.Least.{least}
+use Rattle.laws.specs.Part.{part}
+use Rattle.laws.proofs.Leasts.{least-is}
+use Rattle.text.specs.Characters.{front, each}
+use Rattle.answers.specs.declared.told.Answer.{Answer}
+use Rattle.kinds.specs.declared.of_files.Kind.{Kind}
+use Rattle.kinds.specs.declared.of_files.Role.{Role}
 use Rattle.tables.specs.declared.rows.Row.{Row}
 use Rattle.tables.specs.Rows.{blank}
 use Rattle.tables.specs.Tables.{rowsOf}
-use Rattle.rows.specs.Laid.{laidOut}
-use Rattle.rows.proofs.Laying.{row-of}
-use Rattle.layout.specs.Answers.{accepted, refusesAt}
-use Rattle.layout.specs.Rules.{holds}
+use Rattle.rows.specs.Laid.{most, laidOut}
+use Rattle.rows.proofs.Laying.{laid-length, first, first-laid, rows-fit}
+use Rattle.answers.specs.Answers.{accepted, refuses, refusesAt, toldAt, firstTold}
+use Rattle.layout.specs.Rules.{meets, holds}
 use Rattle.layout.specs.Judging.{brokenAt, rowTells, judgeBy, judgeOf}
-use Rattle.layout.proofs.Told.{So-far, told-stop, told-end, all-told, told-all}
+use Rattle.answers.proofs.Refusals.{So-far, told-stop, told-end, all-told, told-all}
 
 -- a broken row is never told as accepted
 pub broken-number : (n : ℕ) (r : Row) → brokenAt n r .number ≡ 0 → ⊥
@@ -61,19 +65,39 @@ module _ (k : Kind) (rows : List Row) (rec header : List ℕ) (n : ℕ) where
     λ a. ap (λ (b : Answer). b .number) (told-all (rowTells k rows rec header n) (length rows) (λ i h. row-good i (a i h))),
   )
 
--- the loop goes over a table that lays out the rows
+-- what is told of the first row that does not hold: blank where there is none, and a blank row holds
+abbrev tells : Kind → List ℕ → List ℕ → ℕ → Row → Answer
+tells k rec header n r = cond (holds k rec header n r) accepted (brokenAt n r)
+
+module _ (k : Kind) (rec header : List ℕ) (n : ℕ) where
+  blank-tells : tells k rec header n blank ≡ accepted
+  unfolding holds meets part each front least
+  blank-tells = refl
+
+  judge-first : (rows : List Row) → judgeBy k rows rec header n ≡ tells k rec header n (first (λ r. refuses (tells k rec header n r)) rows)
+  unfolding judgeBy firstTold toldAt refusesAt rowTells
+  judge-first rows =
+      let i = least (λ i. refuses (tells k rec header n (getD rows i blank))) (length rows) in
+      ⊎-elim
+      (λ e. rw (le-ltb i (length rows) (omega arith), List·getD-eq-default rows blank {n = i} (omega arith)) (sym blank-tells))
+      (λ h. rw (lt-ltb i (length rows) h))
+      (eq-or-lt-of-le (least-is (λ i. refuses (tells k rec header n (getD rows i blank))) (length rows) .within))
+
+  -- the rows laid out tell the same
+  pub judge-laid : (rows : List Row) → length rows ≤ most → judgeBy k (laidOut rows) rec header n ≡ judgeBy k rows rec header n
+  judge-laid rows h =
+      judge-first (laidOut rows) ∙
+      (ap (tells k rec header n) (first-laid (λ r. refuses (tells k rec header n r)) rows h) ∙ sym (judge-first rows))
+
+-- a loop over a table that lays out a record's rows
 module _ (k : Kind) (role : Role) (rows : List Row) (laid : rows ≡ laidOut (rowsOf k role)) (rec header : List ℕ) (n : ℕ) where
-  same-rows : (i : ℕ) → i ≤ length (rowsOf k role) → So-far (rowTells k rows rec header n) i → So-far (rowTells k (rowsOf k role) rec header n) i
-  unfolding refusesAt rowTells
-  same-rows i h e =
-      sym (least-same (refusesAt (rowTells k rows rec header n)) (refusesAt (rowTells k (rowsOf k role) rec header n)) i (λ j l. rw (row-of k role rows laid j (omega arith)))) ∙ e
-
-  pub laid-stop : (i : ℕ) → i < length (rowsOf k role) → So-far (rowTells k rows rec header n) i → holds k rec header n (getD rows i blank) ≡ false → judgeOf k role rec header n ≡ brokenAt n (getD rows i blank)
+  same-judge : judgeBy k rows rec header n ≡ judgeOf k role rec header n
   unfolding judgeOf
-  laid-stop i h e f =
-      let same = row-of k role rows laid i h in
-      rw same (judge-stop k (rowsOf k role) rec header n i h (same-rows i (omega arith) e) (rw same at f))
+  same-judge = rw laid (judge-laid k rec header n (rowsOf k role) (rows-fit k role))
 
-  pub laid-end : So-far (rowTells k rows rec header n) (length (rowsOf k role)) → judgeOf k role rec header n ≡ accepted
-  unfolding judgeOf judgeBy
-  laid-end e = told-end (rowTells k (rowsOf k role) rec header n) (length (rowsOf k role)) (same-rows (length (rowsOf k role)) (le-refl _) e)
+  pub laid-stop : (i : ℕ) → i < most → So-far (rowTells k rows rec header n) i → holds k rec header n (getD rows i blank) ≡ false → judgeOf k role rec header n ≡ brokenAt n (getD rows i blank)
+  laid-stop i h e f = sym same-judge ∙ judge-stop k rows rec header n i (omega (arith, laid-length k role rows laid)) e f
+
+  pub laid-end : So-far (rowTells k rows rec header n) most → judgeOf k role rec header n ≡ accepted
+  unfolding judgeBy
+  laid-end e = sym same-judge ∙ told-end (rowTells k rows rec header n) (length rows) (rw (laid-length k role rows laid) e)

@@ -1,3 +1,2 @@
 -- Laws about the definitions of specs/.
-pub mod Told
 pub mod Judged

@@ -3,7 +3,7 @@ use Prim.Native.Nat.{ℕ}
 use mathlib.Core.List.{List}
 use lib.ListN.{getD}
 use Rattle.laws.specs.Part.{part}
-use Rattle.text.specs.Numbers.{valueOf}
+use Rattle.numbers.specs.Numbers.{valueOf}
 
 -- of a header: the date, item 5, and the MMDD of the file name, in item 4
 abbrev pub dateOf : List ℕ → List ℕ

@@ -4,11 +4,11 @@ use mathlib.Core.Bool.{cond}
 use mathlib.Core.List.{List}
 use lib.Dec.{eqb}
 use lib.ListN.{length, getD}
-use Rattle.layout.specs.declared.answers.Answer.{Answer}
-use Rattle.tables.specs.declared.kinds.Kind.{Kind}
-use Rattle.tables.specs.declared.kinds.Role.{Role}
+use Rattle.answers.specs.declared.told.Answer.{Answer}
+use Rattle.kinds.specs.declared.of_files.Kind.{Kind}
+use Rattle.kinds.specs.declared.of_files.Role.{Role}
 use Rattle.tables.specs.declared.rows.Row.{Row}
-use Rattle.layout.specs.Answers.{accepted, refusedAt, firstTold}
+use Rattle.answers.specs.Answers.{accepted, refusedAt, firstTold}
 use Rattle.tables.specs.Rows.{blank}
 use Rattle.tables.specs.Tables.{rowsOf}
 use Rattle.layout.specs.Rules.{holds}

@@ -1,5 +1,4 @@
--- Answers, and one record against its rows.
-pub mod Answers
+-- One record against its rows.
 pub mod Items
 pub mod Rules
 pub mod Judging

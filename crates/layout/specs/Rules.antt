@@ -6,13 +6,13 @@ use lib.Dec.{leb, eqb}
 use lib.ListN.{getD, drop}
 use Rattle.laws.specs.Part.{part, same}
 use Rattle.text.specs.Characters.{each, codeText, filled, digits, zeros}
-use Rattle.text.specs.Numbers.{says, wordOf}
-use Rattle.text.specs.Dates.{isDate, notLater}
-use Rattle.tables.specs.declared.kinds.Kind.{Kind}
+use Rattle.numbers.specs.Numbers.{says, wordOf}
+use Rattle.numbers.specs.Dates.{isDate, notLater}
+use Rattle.kinds.specs.declared.of_files.Kind.{Kind}
 use Rattle.tables.specs.declared.rows.Row.{Row}
 use Rattle.tables.specs.declared.rows.Class.{Class}
 use Rattle.tables.specs.declared.rows.Class.the-variants.{Each, CodeText, Filled, Owner, Institution, KindName, Date, NameDate, Serial, AsHeader, NotLater, Application, NotZero, Failed, FailedOrPart, Least}
-use Rattle.tables.specs.Kinds.{fixedOf}
+use Rattle.kinds.specs.Kinds.{fixedOf}
 use Rattle.tables.specs.Codes.{isTableCode}
 use Rattle.layout.specs.Items.{dateOf, nameDay, amountOf, applicationOf}
 

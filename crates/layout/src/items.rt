@@ -3,7 +3,7 @@ ghost use mathlib.Core.Path.{_≡_};
 ghost use Prim.Native.Nat.{_≤_, _<_, _^_};
 ghost use lib.ListN.{length};
 ghost use Rattle.layout.specs.Items.{amountOf};
-use text::numbers;
+use numbers::base_ten;
 use text::parts;
 
 // Where the application kind of an enrolment record stands, and the mark and the type of a debit record.
@@ -19,5 +19,5 @@ pub fn amount(rec: &[u8]) -> u64
     ensures { λ r. ⌜ r ≡ amountOf (now (rec .entry)) ⌝ }
     ensures { λ r. ⌜ r < 10 ^ 13 ⌝ }
 {
-    numbers::number(parts::part(rec, 42, 13))
+    base_ten::number(parts::part(rec, 42, 13))
 }

@@ -1,13 +1,13 @@
 // One record against its rows.
 ghost use mathlib.Core.Path.{_≡_};
 ghost use lib.ListN.{length};
-ghost use Rattle.tables.specs.Kinds.{fixedOf};
+ghost use Rattle.kinds.specs.Kinds.{fixedOf};
 ghost use Rattle.layout.specs.Judging.{brokenAt, judgeOf};
-use crate::answers::Answer;
 use crate::rules;
-use rows::records;
-use tables::kinds::Kind;
-use tables::kinds::Role;
+use answers::told::Answer;
+use kinds::of_files::Kind;
+use kinds::of_files::Role;
+use rows::by_record;
 use tables::rows::Row;
 
 // A row with no code is one in which the item disagrees with the kind or the header.
@@ -26,10 +26,10 @@ pub fn judge(kind: Kind, role: Role, rec: &[u8], header: &[u8], number: u64) -> 
     requires { ⌜ length (now header) ≡ fixedOf kind .size ⌝ }
     ensures { λ r. ⌜ r ≡ judgeOf kind role (now (rec .entry)) (now (header .entry)) number ⌝ }
 {
-    let count = records::row_count(kind, role);
-    let rows = records::rows_of(kind, role);
+    let rows = by_record::rows_of(kind, role);
     let mut i = 0;
-    while i < count {
+    // blank rows hold, so all places are walked
+    while i < by_record::MOST {
         let row = rows[i];
         if rules::holds(kind, row, rec, header, number) {
             i += 1;

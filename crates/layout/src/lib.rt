@@ -1,5 +1,4 @@
-// Answers, and one record against its rows.
-pub mod answers;
+// One record against its rows.
 pub mod items;
 pub mod judging;
 mod rules;

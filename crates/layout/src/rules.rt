@@ -5,14 +5,14 @@ ghost use Prim.Native.Nat.{_+_, _≤_};
 ghost use lib.ListN.{length};
 ghost use Rattle.layout.specs.Rules.{owner, institution, application, failed, partly, enough, holds};
 use crate::items;
+use kinds::of_files::Fixed;
+use kinds::of_files::Kind;
+use numbers::base_ten;
+use numbers::dates;
 use tables::codes;
-use tables::kinds::Fixed;
-use tables::kinds::Kind;
 use tables::rows::Class;
 use tables::rows::Row;
 use text::characters;
-use text::dates;
-use text::numbers;
 use text::parts;
 
 // Four spaces: a code that is left blank.
@@ -49,14 +49,14 @@ fn application(item: &[u8]) -> bool
 fn failed(item: &[u8]) -> bool
     ensures { λ r. ⌜ r ≡ failed (now (item .entry)) ⌝ }
 {
-    parts::byte(item, 0) == b'N' && codes::table_code(numbers::word(parts::rest(item, 1)))
+    parts::byte(item, 0) == b'N' && codes::table_code(base_ten::word(parts::rest(item, 1)))
 }
 
 fn partly(item: &[u8]) -> bool
     ensures { λ r. ⌜ r ≡ partly (now (item .entry)) ⌝ }
 {
     if parts::byte(item, 0) == b'P' {
-        let code = numbers::word(parts::rest(item, 1));
+        let code = base_ten::word(parts::rest(item, 1));
         return codes::table_code(code) || code == BLANK;
     }
     false
@@ -85,10 +85,10 @@ pub(crate) fn holds(kind: Kind, row: Row, rec: &[u8], header: &[u8], number: u64
         Class::Filled => characters::filled(item),
         Class::Owner => owner(item, rec),
         Class::Institution => institution(item),
-        Class::KindName => numbers::word(item) == Fixed::of(kind).name,
+        Class::KindName => base_ten::word(item) == Fixed::of(kind).name,
         Class::Date => dates::date(item),
         Class::NameDate => parts::same(parts::rest(item, 2), parts::part(rec, 23, 4)),
-        Class::Serial => numbers::says(item, number),
+        Class::Serial => base_ten::says(item, number),
         Class::AsHeader => parts::same(item, parts::part(header, row.1, row.2)),
         Class::NotLater => dates::not_later(item, parts::part(header, 27, 6)),
         Class::Application => application(item),

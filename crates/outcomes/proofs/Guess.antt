@@ -8,17 +8,17 @@ use mathlib.Core.Logic.{⊎-elim}
 use native.Mathlib.Omega.{arith}
 use lib.ListN.{length, take}
 use Rattle.laws.proofs.Bools.{either}
-use Rattle.layout.specs.declared.answers.Answer.{Answer}
-use Rattle.layout.specs.Answers.{accepted, refused, refuses}
-use Rattle.layout.proofs.Told.{refuses-zero}
-use Rattle.reader.specs.Records.{dataOf}
+use Rattle.answers.specs.declared.told.Answer.{Answer}
+use Rattle.answers.specs.Answers.{accepted, refused, refuses}
+use Rattle.answers.proofs.Refusals.{refuses-zero, number-of}
+use Rattle.records.specs.Records.{dataOf}
 use Rattle.reader.specs.Reading.{readAs}
 use Rattle.reader.proofs.Cut.{cut-short}
 use Rattle.reader.proofs.Marking.{not-trivial}
-use Rattle.terms.specs.declared.kinds.PairKind.{PairKind}
-use Rattle.terms.specs.Kinds.{requestKind, resultKind}
-use Rattle.terms.proofs.Zero.{number-of, read-zero, meets-zero}
-use Rattle.pair.specs.Amounts.{takenAt, notTakenAt}
+use Rattle.kinds.specs.declared.of_pairs.PairKind.{PairKind}
+use Rattle.kinds.specs.Pairs.{requestKind, resultKind}
+use Rattle.reader.proofs.Accepted.{read-zero, meets-zero}
+use Rattle.matching.specs.Amounts.{takenAt, notTakenAt}
 use Rattle.pair.specs.Pairing.{onSide, pairBy, listsFit, pairAs}
 use Rattle.pair.proofs.Stages.{by-result}
 use Rattle.pair.proofs.Matched.{pair-known}

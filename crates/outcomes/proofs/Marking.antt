@@ -6,28 +6,30 @@ use Rattle.laws.specs.Least.{least, further, some, none}
 use Rattle.laws.specs.Part.{part, differ, same}
 use Rattle.laws.specs.Sum.{sum}
 use Rattle.text.specs.Characters.{within, takes, stopsAt, front, each, digits, spaces, zeros, codeText, filled}
-use Rattle.text.specs.Numbers.{digitOf, valueTo, valueOf, digitsOf, says, wordOf}
-use Rattle.text.specs.Dates.{monthDays, leapDay, daysOf, hasDay, isDate}
-use Rattle.tables.specs.Kinds.{kindOf}
+use Rattle.numbers.specs.Numbers.{digitOf, valueTo, valueOf, digitsOf, says, wordOf}
+use Rattle.numbers.specs.Dates.{monthDays, leapDay, daysOf, hasDay, isDate}
+use Rattle.kinds.specs.Kinds.{kindOf}
 use Rattle.tables.specs.Codes.{bankCodes, centreCodes, tableCodes, codeIs, isTableCode}
 use Rattle.tables.specs.Tables.{headerFront, debitHeader, dataFront, debitData, eb21Data, eb22Data, trailerFront, eb21Trailer, eb22Trailer}
 use Rattle.tables.specs.Totals.{eb21Totals, eb22Totals}
 use Rattle.tables.specs.Copied.{among, itemsBut, debitCopied}
-use Rattle.layout.specs.Answers.{refuses, _then_, refusesAt, toldAt, firstTold}
+use Rattle.answers.specs.Answers.{refuses, _then_, refusesAt, toldAt, firstTold}
 use Rattle.layout.specs.Rules.{institution, failed, partly, enough, meets, holds}
 use Rattle.layout.specs.Judging.{rowTells, judgeBy, judgeOf}
-use Rattle.reader.specs.Records.{recordAt, countOf, roleOf, judgedAt, recordsTell}
-use Rattle.reader.specs.Totals.{worth, worthAt, quantityOf, totalHolds, totalTells, totalsTell}
+use Rattle.records.specs.Records.{recordAt, countOf}
+use Rattle.reader.specs.Judged.{roleOf, judgedAt, recordsTell}
+use Rattle.records.specs.Quantities.{worth, worthAt, quantityOf}
+use Rattle.reader.specs.Totals.{totalHolds, totalTells, totalsTell}
 use Rattle.reader.specs.Keys.{keyAt, repeats, repeatTold, keysTell}
 use Rattle.reader.specs.Reading.{isWhole, lengthTells, readAs, readOf}
 use Rattle.reader.specs.Samples.{all, code, letters, headerRest, headerFor, trailerFor, noTotals, emptyOn}
-use Rattle.terms.specs.Kinds.{pairOf}
+use Rattle.kinds.specs.Pairs.{pairOf}
 use Rattle.terms.specs.Items.{headerItems, agrees, itemTells, itemsTell}
 use Rattle.terms.specs.Amounts.{bases, baseOf, possible, partOfOne, debitTells}
 use Rattle.terms.specs.Meeting.{meetsTell, headersTell}
 use Rattle.terms.specs.Marks.{markIn, codeIn}
-use Rattle.pair.specs.Matching.{hasKey, placeOf, requestFor, resultFor}
-use Rattle.pair.specs.Amounts.{askedAt, notTakenBy, notTakenAt, takenAt}
+use Rattle.matching.specs.Matching.{hasKey, placeOf, requestFor, resultFor}
+use Rattle.matching.specs.Amounts.{askedAt, notTakenBy, notTakenAt, takenAt}
 use Rattle.pair.specs.Results.{resultTells, resultsTell}
 use Rattle.pair.specs.Pairing.{roomTells, pairBy, listsFit, pairAs, pairTold}
 use Rattle.outcomes.specs.Outcomes.{failedBy, outcomeAt, asksFor, outcomeAs, outcomeTold}

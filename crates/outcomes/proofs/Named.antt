@@ -3,12 +3,12 @@
 use Prim.Native.Nat.{ℕ, _-_, _≤_}
 use mathlib.Core.List.{List}
 use mathlib.Core.Path.{_≡_, _∙_}
-use Rattle.layout.specs.Answers.{refused}
-use Rattle.reader.specs.Records.{dataOf}
+use Rattle.answers.specs.Answers.{refused}
+use Rattle.records.specs.Records.{dataOf}
 use Rattle.reader.specs.Reading.{readAs}
-use Rattle.terms.specs.declared.kinds.PairKind.{PairKind}
-use Rattle.terms.specs.declared.kinds.PairNamed.the-variants.{Is, Unknown}
-use Rattle.terms.specs.Kinds.{requestKind, resultKind, pairOf}
+use Rattle.kinds.specs.declared.of_pairs.PairKind.{PairKind}
+use Rattle.kinds.specs.declared.of_pairs.PairNamed.the-variants.{Is, Unknown}
+use Rattle.kinds.specs.Pairs.{requestKind, resultKind, pairOf}
 use Rattle.pair.specs.Pairing.{onSide, pairTold, takenAfter, notTakenAfter}
 use Rattle.pair.proofs.Named.{pair-named, taken-named, not-taken-named}
 use Rattle.outcomes.specs.declared.cases.Outcome.the-variants.{None, Whole}

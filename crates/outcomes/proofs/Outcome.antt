@@ -12,22 +12,22 @@ use lib.ListN.{getD, drop, List·getD-append}
 use Rattle.laws.specs.Tabulate.{tabulate}
 use Rattle.laws.proofs.Bools.{and-left, and-right, either}
 use Rattle.laws.proofs.Tabs.{tab-length, tab-at}
-use Rattle.tables.specs.declared.kinds.Kind.{Kind}
-use Rattle.tables.specs.Kinds.{limit}
-use Rattle.layout.specs.declared.answers.Answer.{Answer}
-use Rattle.layout.specs.Answers.{accepted}
-use Rattle.layout.proofs.Told.{refuses-not}
-use Rattle.reader.specs.Records.{dataOf}
-use Rattle.reader.specs.Totals.{worthAt}
+use Rattle.kinds.specs.declared.of_files.Kind.{Kind}
+use Rattle.kinds.specs.Kinds.{limit}
+use Rattle.answers.specs.declared.told.Answer.{Answer}
+use Rattle.answers.specs.Answers.{accepted}
+use Rattle.answers.proofs.Refusals.{refuses-not}
+use Rattle.records.specs.Records.{dataOf}
+use Rattle.records.specs.Quantities.{worthAt}
 use Rattle.reader.specs.Meets.{Lengths}
-use Rattle.terms.specs.declared.kinds.PairKind.{PairKind}
-use Rattle.terms.specs.Kinds.{requestKind, resultKind}
+use Rattle.kinds.specs.declared.of_pairs.PairKind.{PairKind}
+use Rattle.kinds.specs.Pairs.{requestKind, resultKind}
 use Rattle.terms.specs.Marks.{markIn, codeIn}
 use Rattle.terms.specs.Same.{resultAt}
-use Rattle.terms.proofs.Marks.{result-mark}
-use Rattle.terms.proofs.Possible.{possible-all}
-use Rattle.pair.specs.Matching.{resultFor}
-use Rattle.pair.specs.Amounts.{askedAt, takenAt, notTakenBy, notTakenAt}
+use Rattle.pair.proofs.Marks.{result-mark}
+use Rattle.pair.proofs.Possible.{possible-all}
+use Rattle.matching.specs.Matching.{resultFor}
+use Rattle.matching.specs.Amounts.{askedAt, takenAt, notTakenBy, notTakenAt}
 use Rattle.pair.specs.Pairing.{pairBy, pairAs, listAfter}
 use Rattle.pair.proofs.Stages.{list-filled}
 use Rattle.pair.proofs.Keys.{result-found, result-none}

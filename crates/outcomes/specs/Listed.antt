@@ -4,13 +4,13 @@ use mathlib.Core.Bool.{true}
 use mathlib.Core.List.{List, [], _∷_}
 use mathlib.Core.Path.{_≡_}
 use lib.ListN.{getD}
-use Rattle.layout.specs.Answers.{accepted}
-use Rattle.reader.specs.Records.{dataOf}
-use Rattle.terms.specs.declared.kinds.PairKind.{PairKind}
-use Rattle.terms.specs.Kinds.{requestKind}
+use Rattle.answers.specs.Answers.{accepted}
+use Rattle.records.specs.Records.{dataOf}
+use Rattle.kinds.specs.declared.of_pairs.PairKind.{PairKind}
+use Rattle.kinds.specs.Pairs.{requestKind}
 use Rattle.terms.specs.Marks.{markIn, codeIn}
 use Rattle.terms.specs.Same.{resultAt}
-use Rattle.pair.specs.Amounts.{askedAt, takenAt, notTakenAt}
+use Rattle.matching.specs.Amounts.{askedAt, takenAt, notTakenAt}
 use Rattle.pair.specs.Pairing.{pairBy}
 use Rattle.pair.specs.Assigned.{Matches}
 use Rattle.outcomes.specs.declared.cases.Told.{Told}

@@ -2,9 +2,9 @@
 use Prim.Native.Nat.{ℕ}
 use mathlib.Core.List.{List, [], _∷_, _++_}
 use lib.ListN.{take}
-use Rattle.text.specs.Numbers.{digitsOf}
-use Rattle.tables.specs.declared.kinds.Kind.the-variants.{EB21}
-use Rattle.layout.specs.declared.answers.Answer.{Answer}
+use Rattle.numbers.specs.Numbers.{digitsOf}
+use Rattle.kinds.specs.declared.of_files.Kind.the-variants.{EB21}
+use Rattle.answers.specs.declared.told.Answer.{Answer}
 use Rattle.reader.specs.Reading.{readOf}
 use Rattle.reader.specs.Samples.{all, blanks, emptyOn}
 use Rattle.pair.specs.Pairing.{pairTold}

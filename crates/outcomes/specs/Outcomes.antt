@@ -3,16 +3,16 @@ use Prim.Native.Nat.{ℕ, _+_, _-_}
 use mathlib.Core.Bool.{Bool, true, cond, _&&_}
 use mathlib.Core.List.{List, [], _∷_}
 use lib.Dec.{leb, ltb, eqb}
-use Rattle.layout.specs.declared.answers.Answer.{Answer}
-use Rattle.layout.specs.Answers.{accepted, refused, refuses}
-use Rattle.reader.specs.Records.{recordOf, dataOf}
-use Rattle.terms.specs.declared.kinds.PairKind.{PairKind}
-use Rattle.terms.specs.declared.kinds.PairNamed.{PairNamed}
-use Rattle.terms.specs.declared.kinds.PairNamed.the-variants.{Is, Unknown}
-use Rattle.terms.specs.Kinds.{requestKind, resultKind, pairOf}
+use Rattle.answers.specs.declared.told.Answer.{Answer}
+use Rattle.answers.specs.Answers.{accepted, refused, refuses}
+use Rattle.records.specs.Records.{recordOf, dataOf}
+use Rattle.kinds.specs.declared.of_pairs.PairKind.{PairKind}
+use Rattle.kinds.specs.declared.of_pairs.PairNamed.{PairNamed}
+use Rattle.kinds.specs.declared.of_pairs.PairNamed.the-variants.{Is, Unknown}
+use Rattle.kinds.specs.Pairs.{requestKind, resultKind, pairOf}
 use Rattle.terms.specs.Marks.{markIn, codeIn}
-use Rattle.pair.specs.Matching.{resultFor}
-use Rattle.pair.specs.Amounts.{askedAt, takenAt, notTakenAt}
+use Rattle.matching.specs.Matching.{resultFor}
+use Rattle.matching.specs.Amounts.{askedAt, takenAt, notTakenAt}
 use Rattle.pair.specs.Pairing.{pairBy}
 use Rattle.outcomes.specs.declared.cases.Outcome.{Outcome}
 use Rattle.outcomes.specs.declared.cases.Outcome.the-variants.{None, Whole, Part, Refused}

@@ -3,8 +3,8 @@ use Prim.Native.Nat.{ℕ}
 use mathlib.Core.Bool.{cond}
 use mathlib.Core.List.{List, [], _∷_, _++_}
 use lib.Dec.{eqb}
-use Rattle.text.specs.Numbers.{digitsOf}
-use Rattle.tables.specs.declared.kinds.Kind.the-variants.{EB21, EB22}
+use Rattle.numbers.specs.Numbers.{digitsOf}
+use Rattle.kinds.specs.declared.of_files.Kind.the-variants.{EB21, EB22}
 use Rattle.reader.specs.Samples.{all, blanks, code, headerFor, trailerFor}
 
 -- an account and a payer

@@ -2,10 +2,10 @@
 use Prim.Native.Nat.{ℕ}
 use mathlib.Core.List.{List}
 use Rattle.laws.specs.Sum.{sum}
-use Rattle.reader.specs.Records.{dataOf}
-use Rattle.terms.specs.declared.kinds.PairKind.{PairKind}
-use Rattle.terms.specs.Kinds.{requestKind}
-use Rattle.pair.specs.Amounts.{askedAt, takenAt, notTakenAt}
+use Rattle.records.specs.Records.{dataOf}
+use Rattle.kinds.specs.declared.of_pairs.PairKind.{PairKind}
+use Rattle.kinds.specs.Pairs.{requestKind}
+use Rattle.matching.specs.Amounts.{askedAt, takenAt, notTakenAt}
 use Rattle.outcomes.specs.declared.sums.Sums.{Sums}
 
 -- each sum is over all requests

@@ -2,21 +2,21 @@
 ghost use mathlib.Core.Path.{_≡_};
 ghost use Prim.Native.Nat.{_+_, _≤_, _<_};
 ghost use lib.ListN.{length};
-ghost use Rattle.reader.specs.Records.{countOf};
-ghost use Rattle.terms.specs.Kinds.{requestKind, markStart};
-ghost use Rattle.pair.specs.Matching.{resultFor};
+ghost use Rattle.records.specs.Records.{countOf};
+ghost use Rattle.kinds.specs.Pairs.{requestKind, markStart};
+ghost use Rattle.matching.specs.Matching.{resultFor};
 ghost use Rattle.outcomes.specs.Outcomes.{told, failedBy, outcomeAt, asksFor, outcomeAs, outcomeTold};
 use crate::cases::Outcome;
 use crate::cases::Told;
-use layout::answers::Answer;
-use pair::amounts;
-use pair::matching;
+use answers::told::Answer;
+use kinds::of_pairs;
+use kinds::of_pairs::PairKind;
+use kinds::of_pairs::PairNamed;
+use matching::amounts;
+use matching::lookup;
+use numbers::base_ten;
 use pair::pairing;
-use reader::records;
-use terms::kinds;
-use terms::kinds::PairKind;
-use terms::kinds::PairNamed;
-use text::numbers;
+use records::listed;
 use text::parts;
 
 // Where a result's mark stands in its record; its code follows.
@@ -35,7 +35,7 @@ fn failed_by(pair: PairKind, rec: &[u8], taken: u64, not_taken: u64) -> Outcome
     ensures { λ r. ⌜ r ≡ failedBy pair (now (rec .entry)) taken «not_taken» ⌝ }
 {
     let mark = mark_start(pair);
-    let code = numbers::word(parts::part(rec, mark + 1, 4));
+    let code = base_ten::word(parts::part(rec, mark + 1, 4));
     if parts::byte(rec, mark) == b'P' {
         return Outcome::Part(taken, not_taken, code);
     }
@@ -48,13 +48,13 @@ pub fn outcome_at(pair: PairKind, request: &[u8], result: &[u8], i: usize, j: us
     requires { ⌜ j ≡ resultFor pair (now request) (now result) i ⌝ }
     ensures { λ r. ⌜ r ≡ outcomeAt pair (now (request .entry)) (now (result .entry)) i ⌝ }
 {
-    let kind = kinds::result_kind(pair);
+    let kind = of_pairs::result_kind(pair);
     let asked = amounts::asked_at(pair, request, i);
-    if j < records::data_count(kind, result) {
+    if j < listed::data_count(kind, result) {
         let left = amounts::not_taken_by(pair, result, j);
         return failed_by(
             pair,
-            records::record_of(kind, result, j + 1),
+            listed::record_of(kind, result, j + 1),
             amounts::rest(asked, left),
             left,
         );
@@ -82,10 +82,10 @@ fn outcome_as(pair: PairKind, request: &[u8], result: &[u8], rec: u64) -> Told
     if answer.number != 0 {
         return told(answer, Outcome::None);
     }
-    let n = records::data_count(kinds::request_kind(pair), request);
+    let n = listed::data_count(of_pairs::request_kind(pair), request);
     if asks_for(n as u64, rec) {
         let i = (rec - 1) as usize;
-        let results = matching::results_for(pair, request, result);
+        let results = lookup::results_for(pair, request, result);
         let outcome = outcome_at(pair, request, result, i, results[i]);
         return told(Answer::accepted(), outcome);
     }
@@ -96,7 +96,7 @@ fn outcome_as(pair: PairKind, request: &[u8], result: &[u8], rec: u64) -> Told
 pub fn outcome(kind: u64, request: &[u8], result: &[u8], rec: u64) -> Told
     ensures { λ r. ⌜ r ≡ outcomeTold kind (now (request .entry)) (now (result .entry)) rec ⌝ }
 {
-    let named = kinds::pair_of(kind);
+    let named = of_pairs::pair_of(kind);
     match named {
         PairNamed::Is(known) => outcome_as(known, request, result, rec),
         PairNamed::Unknown => told(Answer::refused(1), Outcome::None),

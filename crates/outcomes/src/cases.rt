@@ -1,5 +1,5 @@
 // What can become of one request.
-use layout::answers::Answer;
+use answers::told::Answer;
 
 // Won as numbers, and the result's code.
 pub enum Outcome {

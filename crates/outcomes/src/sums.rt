@@ -1,15 +1,15 @@
 // What all requests asked, what was taken and what was not.
 ghost use mathlib.Core.Path.{_≡_};
 ghost use Prim.Native.Nat.{_+_, _≤_};
-ghost use Rattle.tables.specs.Kinds.{limit};
-ghost use Rattle.reader.specs.Records.{countOf};
-ghost use Rattle.terms.specs.Kinds.{requestKind};
-ghost use Rattle.pair.specs.Matching.{resultsFor};
+ghost use Rattle.kinds.specs.Kinds.{limit};
+ghost use Rattle.records.specs.Records.{countOf};
+ghost use Rattle.kinds.specs.Pairs.{requestKind};
+ghost use Rattle.matching.specs.Matching.{resultsFor};
 ghost use Rattle.outcomes.specs.Sums.{sumsOf};
-use pair::amounts;
-use reader::records;
-use terms::kinds;
-use terms::kinds::PairKind;
+use kinds::of_pairs;
+use kinds::of_pairs::PairKind;
+use matching::amounts;
+use records::listed;
 
 pub struct Sums {
     pub asked: u64,
@@ -23,7 +23,7 @@ pub fn sums_of(pair: PairKind, request: &[u8], result: &[u8], results: &[usize])
     requires { ⌜ now results ≡ resultsFor pair (now request) (now result) ⌝ }
     ensures { λ r. ⌜ r ≡ sumsOf pair (now (request .entry)) (now (result .entry)) ⌝ }
 {
-    let n = records::data_count(kinds::request_kind(pair), request);
+    let n = listed::data_count(of_pairs::request_kind(pair), request);
     let mut asked: u64 = 0;
     let mut taken: u64 = 0;
     let mut not_taken: u64 = 0;

@@ -6,16 +6,16 @@ use mathlib.Core.List.{List}
 use mathlib.Core.Path.{_≡_, sym, _∙_, ap}
 use mathlib.Core.Logic.{_↔_}
 use borrow.Author.Tests.{le-leb}
-use Rattle.layout.specs.Answers.{accepted}
-use Rattle.reader.specs.Records.{dataOf}
+use Rattle.answers.specs.Answers.{accepted}
+use Rattle.records.specs.Records.{dataOf}
 use Rattle.reader.specs.Reading.{readAs}
 use Rattle.reader.specs.Meets.{Meets}
 use Rattle.reader.proofs.Exact.{read-exact}
-use Rattle.terms.specs.declared.kinds.PairKind.{PairKind}
-use Rattle.terms.specs.Kinds.{requestKind, resultKind}
+use Rattle.kinds.specs.declared.of_pairs.PairKind.{PairKind}
+use Rattle.kinds.specs.Pairs.{requestKind, resultKind}
 use Rattle.terms.specs.Same.{HeadersAgree}
-use Rattle.terms.proofs.Zero.{number-of}
-use Rattle.pair.specs.Matching.{requestFor, resultFor}
+use Rattle.answers.proofs.Refusals.{number-of}
+use Rattle.matching.specs.Matching.{requestFor, resultFor}
 use Rattle.pair.specs.Pairing.{listsFit, pairAs}
 use Rattle.pair.specs.Assigned.{Assignment}
 use Rattle.pair.proofs.Keys.{result-back}

@@ -7,19 +7,19 @@ use mathlib.Core.Path.{_≡_, refl, sym, _∙_}
 use mathlib.Core.Logic.{⊎-elim}
 use native.Mathlib.Omega.{arith}
 use Rattle.laws.proofs.Bools.{either}
-use Rattle.layout.specs.declared.answers.Answer.{Answer}
-use Rattle.layout.specs.Answers.{refuses}
-use Rattle.layout.proofs.Told.{refuses-zero, refuses-other, told, First, Good}
-use Rattle.reader.specs.Records.{recordOf, dataOf}
+use Rattle.answers.specs.declared.told.Answer.{Answer}
+use Rattle.answers.specs.Answers.{refuses}
+use Rattle.answers.proofs.Refusals.{refuses-zero, refuses-other, told, First, Good, number-of}
+use Rattle.records.specs.Records.{recordOf, dataOf}
 use Rattle.reader.specs.Reading.{readAs}
 use Rattle.reader.proofs.Exact.{read-exact}
-use Rattle.terms.specs.declared.kinds.PairKind.{PairKind}
+use Rattle.kinds.specs.declared.of_pairs.PairKind.{PairKind}
 use Rattle.terms.specs.declared.items.Compared.the-variants.{Headers}
-use Rattle.terms.specs.Kinds.{requestKind, resultKind}
+use Rattle.kinds.specs.Pairs.{requestKind, resultKind}
 use Rattle.terms.specs.Items.{comparedOf}
 use Rattle.terms.specs.Meeting.{headersTell}
 use Rattle.terms.specs.Same.{HeadersAgree}
-use Rattle.terms.proofs.Zero.{number-of, read-zero}
+use Rattle.reader.proofs.Accepted.{read-zero}
 use Rattle.terms.proofs.Compared.{Differs, items-told, headers-told}
 use Rattle.pair.specs.Results.{resultTells, resultsTell}
 use Rattle.pair.specs.Pairing.{pairBy, listsFit, pairAs}

@@ -6,15 +6,15 @@ use mathlib.Core.Path.{_≡_, sym, _∙_}
 use native.Mathlib.Omega.{arith}
 use Rattle.laws.proofs.Leasts.{least-is, least-some}
 use Rattle.laws.proofs.Parts.{same-equal, same-self}
-use Rattle.tables.specs.declared.kinds.Kind.{Kind}
-use Rattle.reader.specs.Records.{dataOf}
+use Rattle.kinds.specs.declared.of_files.Kind.{Kind}
+use Rattle.records.specs.Records.{dataOf}
 use Rattle.reader.specs.Keys.{keyAt}
 use Rattle.reader.specs.Meets.{Distinct}
-use Rattle.terms.specs.declared.kinds.PairKind.{PairKind}
-use Rattle.terms.specs.Kinds.{requestKind, resultKind}
+use Rattle.kinds.specs.declared.of_pairs.PairKind.{PairKind}
+use Rattle.kinds.specs.Pairs.{requestKind, resultKind}
 use Rattle.terms.specs.Same.{requestAt, resultAt}
 use Rattle.terms.proofs.Places.{agree-key}
-use Rattle.pair.specs.Matching.{hasKey, placeOf, requestFor, resultFor}
+use Rattle.matching.specs.Matching.{hasKey, placeOf, requestFor, resultFor}
 use Rattle.pair.specs.Assigned.{Matches, Met}
 
 module _ (k : Kind) (s key : List ℕ) where

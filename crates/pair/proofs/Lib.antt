@@ -1,6 +1,7 @@
 -- Laws about the definitions of specs/.
 pub mod Stages
-pub mod Found
+pub mod Marks
+pub mod Possible
 pub mod Keys
 pub mod Said
 pub mod First

@@ -5,18 +5,18 @@ use mathlib.Core.Bool.{Bool, true}
 use mathlib.Core.List.{List}
 use mathlib.Core.Path.{_≡_, _∙_}
 use native.Mathlib.Omega.{arith}
-use Rattle.layout.specs.declared.answers.Answer.{Answer}
-use Rattle.layout.specs.Answers.{accepted}
-use Rattle.layout.proofs.Told.{told-all}
-use Rattle.reader.specs.Records.{dataOf}
+use Rattle.answers.specs.declared.told.Answer.{Answer}
+use Rattle.answers.specs.Answers.{accepted}
+use Rattle.answers.proofs.Refusals.{told-all, number-of}
+use Rattle.records.specs.Records.{dataOf}
 use Rattle.reader.specs.Meets.{Meets}
 use Rattle.reader.proofs.Exact.{read-exact}
-use Rattle.terms.specs.declared.kinds.PairKind.{PairKind}
-use Rattle.terms.specs.Kinds.{requestKind, resultKind}
+use Rattle.kinds.specs.declared.of_pairs.PairKind.{PairKind}
+use Rattle.kinds.specs.Pairs.{requestKind, resultKind}
 use Rattle.terms.specs.Same.{HeadersAgree}
-use Rattle.terms.proofs.Zero.{number-of, meets-zero}
+use Rattle.reader.proofs.Accepted.{meets-zero}
 use Rattle.terms.proofs.Compared.{headers-told}
-use Rattle.pair.specs.Matching.{requestFor, resultFor}
+use Rattle.matching.specs.Matching.{requestFor, resultFor}
 use Rattle.pair.specs.Results.{resultTells, resultsTell}
 use Rattle.pair.specs.Pairing.{pairBy, listsFit, pairAs}
 use Rattle.pair.specs.Assigned.{Met}

@@ -13,22 +13,23 @@ use Rattle.laws.specs.Part.{part}
 use Rattle.laws.specs.Sum.{sum}
 use Rattle.laws.proofs.Bools.{either}
 use Rattle.laws.proofs.Sums.{sum-same, sum-add, sum-along}
-use Rattle.text.specs.Numbers.{valueOf}
-use Rattle.tables.specs.declared.kinds.Kind.the-variants.{EB13, EB14, EB21, EB22}
+use Rattle.numbers.specs.Numbers.{valueOf}
+use Rattle.kinds.specs.declared.of_files.Kind.the-variants.{EB13, EB14, EB21, EB22}
 use Rattle.tables.specs.declared.totals.Quantity.{Quantity}
 use Rattle.tables.specs.declared.totals.Quantity.the-variants.{Records, OfKind, AmountsMarked}
 use Rattle.tables.specs.Totals.{noTotal, enrolmentTotals, eb21Totals, eb22Totals, totalsOf}
-use Rattle.reader.specs.Records.{dataOf, trailerOf}
-use Rattle.reader.specs.Totals.{worth, worthAt, quantityOf}
+use Rattle.records.specs.Records.{dataOf, trailerOf}
+use Rattle.records.specs.Quantities.{worth, worthAt, quantityOf}
 use Rattle.reader.specs.Meets.{Meets}
 use Rattle.reader.proofs.Accepted.{total-value}
-use Rattle.terms.specs.declared.kinds.PairKind.{PairKind}
-use Rattle.terms.specs.declared.kinds.PairKind.the-variants.{Enrolment, Debit}
-use Rattle.terms.specs.Kinds.{requestKind, resultKind, asks}
-use Rattle.terms.proofs.Marks.{debit-mark}
-use Rattle.terms.proofs.Possible.{possible-most}
-use Rattle.pair.specs.Matching.{requestFor, resultFor}
-use Rattle.pair.specs.Amounts.{askedAt, takenAt, notTakenBy, notTakenAt}
+use Rattle.kinds.specs.declared.of_pairs.PairKind.{PairKind}
+use Rattle.kinds.specs.declared.of_pairs.PairKind.the-variants.{Enrolment, Debit}
+use Rattle.kinds.specs.Pairs.{requestKind, resultKind}
+use Rattle.terms.specs.Amounts.{asks}
+use Rattle.pair.proofs.Marks.{debit-mark}
+use Rattle.pair.proofs.Possible.{possible-most}
+use Rattle.matching.specs.Matching.{requestFor, resultFor}
+use Rattle.matching.specs.Amounts.{askedAt, takenAt, notTakenBy, notTakenAt}
 use Rattle.pair.specs.Pairing.{pairBy, pairAs}
 use Rattle.pair.specs.Trailers.{failedAs, askedInAll}
 use Rattle.pair.proofs.Keys.{result-back, request-back}

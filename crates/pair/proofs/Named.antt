@@ -6,15 +6,15 @@ use mathlib.Core.List.{List}
 use mathlib.Core.Path.{_≡_, refl}
 use mathlib.Core.Logic.{_↔_}
 use native.Mathlib.Omega.{arith}
-use Rattle.layout.specs.Answers.{accepted, refused}
-use Rattle.reader.specs.Records.{dataOf}
+use Rattle.answers.specs.Answers.{accepted, refused}
+use Rattle.records.specs.Records.{dataOf}
 use Rattle.reader.specs.Reading.{readAs}
-use Rattle.terms.specs.declared.kinds.PairKind.{PairKind}
-use Rattle.terms.specs.declared.kinds.PairNamed.{PairNamed}
-use Rattle.terms.specs.declared.kinds.PairNamed.the-variants.{Is, Unknown}
-use Rattle.terms.specs.Kinds.{requestKind, resultKind, pairOf}
+use Rattle.kinds.specs.declared.of_pairs.PairKind.{PairKind}
+use Rattle.kinds.specs.declared.of_pairs.PairNamed.{PairNamed}
+use Rattle.kinds.specs.declared.of_pairs.PairNamed.the-variants.{Is, Unknown}
+use Rattle.kinds.specs.Pairs.{requestKind, resultKind, pairOf}
 use Rattle.terms.specs.Same.{HeadersAgree}
-use Rattle.pair.specs.Amounts.{takenAt, notTakenAt}
+use Rattle.matching.specs.Amounts.{takenAt, notTakenAt}
 use Rattle.pair.specs.Pairing.{pairBy, listsFit, pairAs, listAfter, pairNamed, pairTold, takenAfter, notTakenAfter}
 use Rattle.pair.specs.Assigned.{Assignment}
 use Rattle.pair.specs.First.{PairSays}

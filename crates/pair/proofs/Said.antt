@@ -9,23 +9,22 @@ use native.Mathlib.Omega.{arith}
 use borrow.Author.Tests.{ltb-true, ltb-false, lt-ltb}
 use lib.Dec.{ltb}
 use Rattle.laws.proofs.Bools.{either}
-use Rattle.layout.specs.declared.answers.Answer.{Answer}
-use Rattle.layout.specs.Answers.{accepted, _then_}
-use Rattle.layout.proofs.Told.{then-first, then-second}
-use Rattle.reader.specs.Records.{dataOf}
+use Rattle.answers.specs.declared.told.Answer.{Answer}
+use Rattle.answers.specs.Answers.{accepted, _then_}
+use Rattle.answers.proofs.Refusals.{then-first, then-second, number-of}
+use Rattle.records.specs.Records.{dataOf}
 use Rattle.reader.specs.Meets.{Meets}
-use Rattle.terms.specs.declared.kinds.PairKind.{PairKind}
+use Rattle.kinds.specs.declared.of_pairs.PairKind.{PairKind}
 use Rattle.terms.specs.declared.items.Compared.the-variants.{Records}
-use Rattle.terms.specs.Kinds.{requestKind, resultKind}
+use Rattle.kinds.specs.Pairs.{requestKind, resultKind}
 use Rattle.terms.specs.Items.{comparedOf, itemsTell}
 use Rattle.terms.specs.Amounts.{amountsTell}
 use Rattle.terms.specs.Meeting.{meetsTell}
 use Rattle.terms.specs.Same.{requestAt, resultAt, Agree}
 use Rattle.terms.specs.Possible.{AmountsRefused}
-use Rattle.terms.proofs.Zero.{number-of}
 use Rattle.terms.proofs.Compared.{Differs, items-told, same-told}
-use Rattle.terms.proofs.Possible.{AmountsTold, amounts-told, possible-told}
-use Rattle.pair.specs.Matching.{requestFor}
+use Rattle.pair.proofs.Possible.{AmountsTold, amounts-told, possible-told}
+use Rattle.matching.specs.Matching.{requestFor}
 use Rattle.pair.specs.Results.{resultTells}
 use Rattle.pair.specs.Assigned.{Matches, Met}
 use Rattle.pair.specs.First.{ResultRefused, Stands}

@@ -11,16 +11,15 @@ use lib.Dec.{leb}
 use lib.ListN.{drop}
 use Rattle.laws.specs.Tabulate.{tabulate}
 use Rattle.laws.proofs.Bools.{and-left, and-right, either}
-use Rattle.tables.specs.declared.kinds.Kind.{Kind}
-use Rattle.layout.specs.declared.answers.Answer.{Answer}
-use Rattle.layout.specs.Answers.{accepted, refused, _then_}
-use Rattle.layout.proofs.Told.{then-first, then-second, then-zero}
-use Rattle.reader.specs.Records.{dataOf}
+use Rattle.kinds.specs.declared.of_files.Kind.{Kind}
+use Rattle.answers.specs.declared.told.Answer.{Answer}
+use Rattle.answers.specs.Answers.{accepted, refused, _then_}
+use Rattle.answers.proofs.Refusals.{then-first, then-second, then-zero, number-of}
+use Rattle.records.specs.Records.{dataOf}
 use Rattle.reader.specs.Reading.{readAs}
-use Rattle.terms.specs.declared.kinds.PairKind.{PairKind}
-use Rattle.terms.specs.Kinds.{requestKind, resultKind}
+use Rattle.kinds.specs.declared.of_pairs.PairKind.{PairKind}
+use Rattle.kinds.specs.Pairs.{requestKind, resultKind}
 use Rattle.terms.specs.Meeting.{headersTell}
-use Rattle.terms.proofs.Zero.{number-of}
 use Rattle.pair.specs.Results.{resultsTell}
 use Rattle.pair.specs.Pairing.{onSide, roomTells, pairBy, listsFit, pairAs, listAfter}
 

@@ -2,10 +2,10 @@
 use Prim.Native.Nat.{ℕ, _<_}
 use mathlib.Core.List.{List}
 use mathlib.Core.Path.{_≡_}
-use Rattle.reader.specs.Records.{dataOf}
+use Rattle.records.specs.Records.{dataOf}
 use Rattle.reader.specs.Keys.{keyAt}
-use Rattle.terms.specs.declared.kinds.PairKind.{PairKind}
-use Rattle.terms.specs.Kinds.{requestKind, resultKind}
+use Rattle.kinds.specs.declared.of_pairs.PairKind.{PairKind}
+use Rattle.kinds.specs.Pairs.{requestKind, resultKind}
 use Rattle.terms.specs.Same.{requestAt, resultAt, Agree}
 use Rattle.terms.specs.Possible.{Possible}
 

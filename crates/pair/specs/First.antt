@@ -4,15 +4,15 @@ use mathlib.Core.Bool.{Bool, true, false}
 use mathlib.Core.List.{List}
 use mathlib.Core.Path.{_≡_}
 use lib.ListN.{length, getD}
-use Rattle.tables.specs.Kinds.{fixedOf}
+use Rattle.kinds.specs.Kinds.{fixedOf}
 use Rattle.tables.specs.Copied.{noItem}
-use Rattle.layout.specs.declared.answers.Answer.{Answer}
-use Rattle.layout.specs.Answers.{accepted, refused, refusedAt}
-use Rattle.reader.specs.Records.{recordOf, dataOf}
+use Rattle.answers.specs.declared.told.Answer.{Answer}
+use Rattle.answers.specs.Answers.{accepted, refused, refusedAt}
+use Rattle.records.specs.Records.{recordOf, dataOf}
 use Rattle.reader.specs.Reading.{readAs}
-use Rattle.terms.specs.declared.kinds.PairKind.{PairKind}
+use Rattle.kinds.specs.declared.of_pairs.PairKind.{PairKind}
 use Rattle.terms.specs.declared.items.Compared.the-variants.{Headers, Records}
-use Rattle.terms.specs.Kinds.{requestKind, resultKind}
+use Rattle.kinds.specs.Pairs.{requestKind, resultKind}
 use Rattle.terms.specs.Items.{comparedOf}
 use Rattle.terms.specs.Same.{requestAt, resultAt, SameItem, SameTo, Agree, HeadersAgree}
 use Rattle.terms.specs.Possible.{AmountsRefused}

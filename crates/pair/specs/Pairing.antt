@@ -5,16 +5,16 @@ use mathlib.Core.List.{List, _++_}
 use lib.Dec.{leb, eqb}
 use lib.ListN.{drop}
 use Rattle.laws.specs.Tabulate.{tabulate}
-use Rattle.layout.specs.declared.answers.Answer.{Answer}
-use Rattle.layout.specs.Answers.{accepted, refused, _then_}
-use Rattle.reader.specs.Records.{dataOf}
+use Rattle.answers.specs.declared.told.Answer.{Answer}
+use Rattle.answers.specs.Answers.{accepted, refused, _then_}
+use Rattle.records.specs.Records.{dataOf}
 use Rattle.reader.specs.Reading.{readAs}
-use Rattle.terms.specs.declared.kinds.PairKind.{PairKind}
-use Rattle.terms.specs.declared.kinds.PairNamed.{PairNamed}
-use Rattle.terms.specs.declared.kinds.PairNamed.the-variants.{Is, Unknown}
-use Rattle.terms.specs.Kinds.{requestKind, resultKind, pairOf}
+use Rattle.kinds.specs.declared.of_pairs.PairKind.{PairKind}
+use Rattle.kinds.specs.declared.of_pairs.PairNamed.{PairNamed}
+use Rattle.kinds.specs.declared.of_pairs.PairNamed.the-variants.{Is, Unknown}
+use Rattle.kinds.specs.Pairs.{requestKind, resultKind, pairOf}
 use Rattle.terms.specs.Meeting.{headersTell}
-use Rattle.pair.specs.Amounts.{takenAt, notTakenAt}
+use Rattle.matching.specs.Amounts.{takenAt, notTakenAt}
 use Rattle.pair.specs.Results.{resultsTell}
 
 -- an answer about one side of the pair

@@ -3,14 +3,14 @@ use Prim.Native.Nat.{ℕ, _+_}
 use mathlib.Core.Bool.{cond}
 use mathlib.Core.List.{List}
 use lib.Dec.{ltb}
-use Rattle.tables.specs.Kinds.{fixedOf}
-use Rattle.layout.specs.declared.answers.Answer.{Answer}
-use Rattle.layout.specs.Answers.{refusedAt, firstTold}
-use Rattle.reader.specs.Records.{recordOf, dataOf}
-use Rattle.terms.specs.declared.kinds.PairKind.{PairKind}
-use Rattle.terms.specs.Kinds.{requestKind, resultKind}
+use Rattle.kinds.specs.Kinds.{fixedOf}
+use Rattle.answers.specs.declared.told.Answer.{Answer}
+use Rattle.answers.specs.Answers.{refusedAt, firstTold}
+use Rattle.records.specs.Records.{recordOf, dataOf}
+use Rattle.kinds.specs.declared.of_pairs.PairKind.{PairKind}
+use Rattle.kinds.specs.Pairs.{requestKind, resultKind}
 use Rattle.terms.specs.Meeting.{meetsTell}
-use Rattle.pair.specs.Matching.{requestFor}
+use Rattle.matching.specs.Matching.{requestFor}
 
 -- result j + 1: 13 at the key item where it has no request
 unfoldable pub resultTells : PairKind → List ℕ → List ℕ → ℕ → Answer

@@ -4,15 +4,15 @@ use mathlib.Core.Bool.{cond}
 use mathlib.Core.List.{List}
 use lib.Dec.{ltb}
 use Rattle.laws.specs.Part.{part}
-use Rattle.text.specs.Numbers.{valueOf}
-use Rattle.tables.specs.declared.kinds.Kind.the-variants.{EB13, EB21}
+use Rattle.numbers.specs.Numbers.{valueOf}
+use Rattle.kinds.specs.declared.of_files.Kind.the-variants.{EB13, EB21}
 use Rattle.tables.specs.declared.totals.Quantity.{Quantity}
-use Rattle.reader.specs.Records.{dataOf, trailerOf}
-use Rattle.reader.specs.Totals.{worthAt}
-use Rattle.terms.specs.declared.kinds.PairKind.{PairKind}
-use Rattle.terms.specs.declared.kinds.PairKind.the-variants.{Enrolment, Debit}
-use Rattle.terms.specs.Kinds.{resultKind}
-use Rattle.pair.specs.Matching.{resultFor}
+use Rattle.records.specs.Records.{dataOf, trailerOf}
+use Rattle.records.specs.Quantities.{worthAt}
+use Rattle.kinds.specs.declared.of_pairs.PairKind.{PairKind}
+use Rattle.kinds.specs.declared.of_pairs.PairKind.the-variants.{Enrolment, Debit}
+use Rattle.kinds.specs.Pairs.{resultKind}
+use Rattle.matching.specs.Matching.{resultFor}
 
 -- what the result of request i + 1 adds to a quantity; nothing where it has no result
 unfoldable pub failedAs : PairKind → List ℕ → List ℕ → Quantity → ℕ → ℕ

@@ -4,15 +4,15 @@ ghost use mathlib.Core.List.{_++_};
 ghost use Prim.Native.Nat.{_+_, _≤_};
 ghost use lib.ListN.{length, drop};
 ghost use Rattle.laws.specs.Tabulate.{tabulate};
-ghost use Rattle.tables.specs.Kinds.{limit};
-ghost use Rattle.reader.specs.Records.{countOf, dataOf};
-ghost use Rattle.terms.specs.Kinds.{requestKind, resultKind};
-ghost use Rattle.pair.specs.Amounts.{takenAt, notTakenAt};
-use crate::amounts;
-use crate::matching;
-use reader::records;
-use terms::kinds;
-use terms::kinds::PairKind;
+ghost use Rattle.kinds.specs.Kinds.{limit};
+ghost use Rattle.records.specs.Records.{countOf, dataOf};
+ghost use Rattle.kinds.specs.Pairs.{requestKind, resultKind};
+ghost use Rattle.matching.specs.Amounts.{takenAt, notTakenAt};
+use kinds::of_pairs;
+use kinds::of_pairs::PairKind;
+use matching::amounts;
+use matching::lookup;
+use records::listed;
 
 // One place for each request, in file order; places past them stay.
 pub(crate) fn fill(
@@ -31,8 +31,8 @@ pub(crate) fn fill(
     ensures { λ _. ⌜ now (taken .exit) ≡ tabulate (takenAt pair (now (request .entry)) (now (result .entry))) (dataOf (requestKind pair) (now (request .entry))) ++ drop (dataOf (requestKind pair) (now (request .entry))) (now (taken .entry)) ⌝ }
     ensures { λ _. ⌜ now («not_taken» .exit) ≡ tabulate (notTakenAt pair (now (request .entry)) (now (result .entry))) (dataOf (requestKind pair) (now (request .entry))) ++ drop (dataOf (requestKind pair) (now (request .entry))) (now («not_taken» .entry)) ⌝ }
 {
-    let n = records::data_count(kinds::request_kind(pair), request);
-    let results = matching::results_for(pair, request, result);
+    let n = listed::data_count(of_pairs::request_kind(pair), request);
+    let results = lookup::results_for(pair, request, result);
     let mut i = 0;
     while i < n {
         let left = amounts::not_taken_by(pair, result, results[i]);

@@ -1,19 +1,19 @@
 // A request with its result: 1; the request's reading, the result's; 12; 8; then the result records in order.
 ghost use mathlib.Core.Path.{_≡_};
 ghost use lib.ListN.{length};
-ghost use Rattle.reader.specs.Records.{dataOf};
-ghost use Rattle.terms.specs.Kinds.{requestKind};
+ghost use Rattle.records.specs.Records.{dataOf};
+ghost use Rattle.kinds.specs.Pairs.{requestKind};
 ghost use Rattle.pair.specs.Pairing.{onSide, listsFit, pairBy, pairAs, listAfter, pairTold, takenAfter, notTakenAfter};
-ghost use Rattle.pair.specs.Amounts.{takenAt, notTakenAt};
+ghost use Rattle.matching.specs.Amounts.{takenAt, notTakenAt};
 use crate::lists;
-use crate::matching;
 use crate::results;
-use layout::answers::Answer;
+use answers::told::Answer;
+use kinds::of_pairs;
+use kinds::of_pairs::PairKind;
+use kinds::of_pairs::PairNamed;
+use matching::lookup;
 use reader::reading;
-use reader::records;
-use terms::kinds;
-use terms::kinds::PairKind;
-use terms::kinds::PairNamed;
+use records::listed;
 use terms::meeting;
 
 fn on_side(side: u64, answer: Answer) -> Answer
@@ -32,11 +32,11 @@ fn on_side(side: u64, answer: Answer) -> Answer
 pub fn pair_by(pair: PairKind, request: &[u8], result: &[u8], fits: bool) -> Answer
     ensures { λ r. ⌜ r ≡ pairBy pair (now (request .entry)) (now (result .entry)) fits ⌝ }
 {
-    let of_request = reading::read_as(kinds::request_kind(pair), request);
+    let of_request = reading::read_as(of_pairs::request_kind(pair), request);
     if of_request.number != 0 {
         return on_side(1, of_request);
     }
-    let of_result = reading::read_as(kinds::result_kind(pair), result);
+    let of_result = reading::read_as(of_pairs::result_kind(pair), result);
     if of_result.number != 0 {
         return on_side(2, of_result);
     }
@@ -45,7 +45,7 @@ pub fn pair_by(pair: PairKind, request: &[u8], result: &[u8], fits: bool) -> Ans
         return of_headers;
     }
     if fits {
-        let requests = matching::requests_for(pair, request, result);
+        let requests = lookup::requests_for(pair, request, result);
         return results::results_tell(pair, request, result, &requests);
     }
     Answer::refused(8)
@@ -69,7 +69,7 @@ fn pair_as(
     ensures { λ _. ⌜ now (taken .exit) ≡ listAfter (pairAs pair (now (request .entry)) (now (result .entry)) (length (now (taken .entry))) (length (now («not_taken» .entry)))) (takenAt pair (now (request .entry)) (now (result .entry))) (dataOf (requestKind pair) (now (request .entry))) (now (taken .entry)) ⌝ }
     ensures { λ _. ⌜ now («not_taken» .exit) ≡ listAfter (pairAs pair (now (request .entry)) (now (result .entry)) (length (now (taken .entry))) (length (now («not_taken» .entry)))) (notTakenAt pair (now (request .entry)) (now (result .entry))) (dataOf (requestKind pair) (now (request .entry))) (now («not_taken» .entry)) ⌝ }
 {
-    let n = records::data_count(kinds::request_kind(pair), request);
+    let n = listed::data_count(of_pairs::request_kind(pair), request);
     let fits = lists_fit(n, taken.len(), not_taken.len());
     let answer = pair_by(pair, request, result, fits);
     if answer.number == 0 {
@@ -91,7 +91,7 @@ pub fn pair(
     ensures { λ _. ⌜ now (taken .exit) ≡ takenAfter kind (now (request .entry)) (now (result .entry)) (length (now (taken .entry))) (length (now («not_taken» .entry))) (now (taken .entry)) ⌝ }
     ensures { λ _. ⌜ now («not_taken» .exit) ≡ notTakenAfter kind (now (request .entry)) (now (result .entry)) (length (now (taken .entry))) (length (now («not_taken» .entry))) (now («not_taken» .entry)) ⌝ }
 {
-    let named = kinds::pair_of(kind);
+    let named = of_pairs::pair_of(kind);
     match named {
         PairNamed::Is(known) => pair_as(known, request, result, taken, not_taken),
         PairNamed::Unknown => Answer::refused(1),

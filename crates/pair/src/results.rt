@@ -1,16 +1,16 @@
 // What is told of each result record.
 ghost use mathlib.Core.Path.{_≡_};
 ghost use Prim.Native.Nat.{_+_, _≤_, _<_};
-ghost use Rattle.tables.specs.Kinds.{limit};
-ghost use Rattle.reader.specs.Records.{countOf};
-ghost use Rattle.terms.specs.Kinds.{resultKind};
-ghost use Rattle.pair.specs.Matching.{requestFor, requestsFor};
+ghost use Rattle.kinds.specs.Kinds.{limit};
+ghost use Rattle.records.specs.Records.{countOf};
+ghost use Rattle.kinds.specs.Pairs.{resultKind};
+ghost use Rattle.matching.specs.Matching.{requestFor, requestsFor};
 ghost use Rattle.pair.specs.Results.{resultTells, resultsTell};
-use layout::answers::Answer;
-use reader::records;
-use tables::kinds::Fixed;
-use terms::kinds;
-use terms::kinds::PairKind;
+use answers::told::Answer;
+use kinds::of_files::Fixed;
+use kinds::of_pairs;
+use kinds::of_pairs::PairKind;
+use records::listed;
 use terms::meeting;
 
 // Result j + 1, whose request is i + 1.
@@ -20,18 +20,18 @@ fn result_tells(pair: PairKind, request: &[u8], result: &[u8], j: usize, i: usiz
     ensures { λ r. ⌜ r ≡ resultTells pair (now (request .entry)) (now (result .entry)) j ⌝ }
 {
     let rec = (j + 1) as u64;
-    if i < records::data_count(kinds::request_kind(pair), request) {
+    if i < listed::data_count(of_pairs::request_kind(pair), request) {
         return meeting::meets_tell(
             pair,
             rec,
-            records::record_of(kinds::request_kind(pair), request, i + 1),
-            records::record_of(kinds::result_kind(pair), result, j + 1),
+            listed::record_of(of_pairs::request_kind(pair), request, i + 1),
+            listed::record_of(of_pairs::result_kind(pair), result, j + 1),
         );
     }
     Answer::refused_at(
         13,
         rec,
-        Fixed::of(kinds::result_kind(pair)).key.item,
+        Fixed::of(of_pairs::result_kind(pair)).key.item,
         Answer::UNUSED,
     )
 }
@@ -47,7 +47,7 @@ pub(crate) fn results_tell(
     requires { ⌜ now requests ≡ requestsFor pair (now request) (now result) ⌝ }
     ensures { λ r. ⌜ r ≡ resultsTell pair (now (request .entry)) (now (result .entry)) ⌝ }
 {
-    let m = records::data_count(kinds::result_kind(pair), result);
+    let m = listed::data_count(of_pairs::result_kind(pair), result);
     let mut j = 0;
     while j < m {
         let answer = result_tells(pair, request, result, j, requests[j]);

@@ -8,13 +8,13 @@ use native.Mathlib.Omega.{arith}
 use borrow.Author.Tests.{le-leb, lt-leb}
 use lib.ListN.{length, drop}
 use Rattle.laws.proofs.Sums.{sum-add}
-use Rattle.tables.specs.declared.kinds.Kind.the-variants.{EB21}
-use Rattle.layout.specs.declared.answers.Answer.{Answer}
-use Rattle.layout.specs.Answers.{_then_}
-use Rattle.layout.proofs.Told.{refuses-is, refuses-not, then-first, then-second, then-zero}
-use Rattle.reader.specs.Records.{dataOf}
-use Rattle.terms.specs.declared.kinds.PairKind.the-variants.{Debit}
-use Rattle.pair.specs.Amounts.{askedAt, takenAt, notTakenAt}
+use Rattle.kinds.specs.declared.of_files.Kind.the-variants.{EB21}
+use Rattle.answers.specs.declared.told.Answer.{Answer}
+use Rattle.answers.specs.Answers.{_then_}
+use Rattle.answers.proofs.Refusals.{refuses-is, refuses-not, then-first, then-second, then-zero}
+use Rattle.records.specs.Records.{dataOf}
+use Rattle.kinds.specs.declared.of_pairs.PairKind.the-variants.{Debit}
+use Rattle.matching.specs.Amounts.{askedAt, takenAt, notTakenAt}
 use Rattle.outcomes.specs.Outcomes.{asksFor, outcomeAs}
 use Rattle.pair.specs.Pairing.{pairBy}
 use Rattle.outcomes.specs.Sums.{sumsOf}

@@ -10,8 +10,8 @@ use lib.ListN.{length, getD, length-append, List·getD-append}
 use lib.Seq.{getD-at}
 use Rattle.laws.specs.Least.{least}
 use Rattle.laws.proofs.Leasts.{least-more, least-stop}
-use Rattle.text.specs.Numbers.{digitsOf}
-use Rattle.text.proofs.Values.{digits-length}
+use Rattle.numbers.specs.Numbers.{digitsOf}
+use Rattle.numbers.proofs.Values.{digits-length}
 use Rattle.posting.specs.Decimal.{lastLeft, widthOf, decimal}
 use Rattle.posting.specs.Lines.{numberThen}
 

@@ -4,7 +4,7 @@ use mathlib.Core.Bool.{Bool}
 use mathlib.Core.List.{List}
 use lib.Dec.{ltb}
 use Rattle.laws.specs.Least.{least}
-use Rattle.text.specs.Numbers.{digitsOf}
+use Rattle.numbers.specs.Numbers.{digitsOf}
 
 -- after w digits are taken off its end, one digit of n is left
 unfoldable pub lastLeft : ℕ → ℕ → Bool

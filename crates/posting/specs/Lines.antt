@@ -5,8 +5,8 @@ use mathlib.Core.List.{List, [], _∷_, _++_}
 use lib.Dec.{eqb}
 use lib.ListN.{getD}
 use Rattle.laws.specs.Tabulate.{tabulate}
-use Rattle.text.specs.Numbers.{letterOf}
-use Rattle.layout.specs.declared.answers.Answer.{Answer}
+use Rattle.numbers.specs.Numbers.{letterOf}
+use Rattle.answers.specs.declared.told.Answer.{Answer}
 use Rattle.outcomes.specs.declared.cases.Outcome.{Outcome}
 use Rattle.outcomes.specs.declared.cases.Outcome.the-variants.{None, Whole, Part, Refused}
 use Rattle.outcomes.specs.declared.sums.Sums.{Sums}

@@ -5,11 +5,11 @@ use mathlib.Core.List.{List, _++_}
 use lib.Dec.{leb, ltb}
 use lib.ListN.{length, drop}
 use Rattle.laws.specs.Joined.{joined}
-use Rattle.tables.specs.declared.kinds.Kind.the-variants.{EB21}
-use Rattle.layout.specs.declared.answers.Answer.{Answer}
-use Rattle.layout.specs.Answers.{refused, refuses, _then_, accepted}
-use Rattle.reader.specs.Records.{dataOf}
-use Rattle.terms.specs.declared.kinds.PairKind.the-variants.{Debit}
+use Rattle.kinds.specs.declared.of_files.Kind.the-variants.{EB21}
+use Rattle.answers.specs.declared.told.Answer.{Answer}
+use Rattle.answers.specs.Answers.{refused, refuses, _then_, accepted}
+use Rattle.records.specs.Records.{dataOf}
+use Rattle.kinds.specs.declared.of_pairs.PairKind.the-variants.{Debit}
 use Rattle.pair.specs.Pairing.{onSide, pairBy}
 use Rattle.outcomes.specs.Outcomes.{outcomeAt}
 use Rattle.outcomes.specs.Sums.{sumsOf}

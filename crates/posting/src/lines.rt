@@ -6,7 +6,7 @@ ghost use Rattle.outcomes.specs.Outcomes.{fourOf};
 ghost use Rattle.posting.specs.Lines.{wordFor, refusalLine, acceptedLine, requestLine};
 ghost use Rattle.posting.specs.Puts.{putAt};
 use crate::puts;
-use layout::answers::Answer;
+use answers::told::Answer;
 use outcomes::cases::Outcome;
 use outcomes::sums::Sums;
 

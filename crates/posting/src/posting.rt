@@ -3,28 +3,28 @@ ghost use mathlib.Core.Path.{_≡_};
 ghost use Prim.Native.Nat.{_+_, _*_, _≤_};
 ghost use lib.ListN.{length};
 ghost use Rattle.laws.specs.Joined.{joined};
-ghost use Rattle.tables.specs.Kinds.{limit};
-ghost use Rattle.reader.specs.Records.{countOf, dataOf};
-ghost use Rattle.pair.specs.Matching.{resultsFor};
+ghost use Rattle.kinds.specs.Kinds.{limit};
+ghost use Rattle.records.specs.Records.{countOf, dataOf};
+ghost use Rattle.matching.specs.Matching.{resultsFor};
 ghost use Rattle.posting.specs.Posting.{sizeTells, postTells, lineAt, acceptedText, postText, postSize, postAfter};
 ghost use Rattle.posting.specs.Puts.{putAt};
 use crate::lines;
 use crate::puts;
-use layout::answers::Answer;
+use answers::told::Answer;
+use kinds::of_files::Kind;
+use kinds::of_files::LIMIT;
+use kinds::of_pairs::PairKind;
+use matching::lookup;
 use outcomes::asking;
 use outcomes::sums;
-use pair::matching;
 use pair::pairing;
-use reader::records;
-use tables::kinds;
-use tables::kinds::Kind;
-use terms::kinds::PairKind;
+use records::listed;
 
 // The longest file that the program takes.
 const MOST: usize = 64_800;
 
 // Room for the longest text: a first line, and a line for each request.
-const FRAME: usize = 100 + kinds::LIMIT * 80;
+const FRAME: usize = 100 + LIMIT * 80;
 
 // 3 on its side where a file is longer.
 fn size_tells(side: u64, file: &[u8]) -> Answer
@@ -93,7 +93,7 @@ fn put_all(request: &[u8], result: &[u8], results: &[usize], text: &mut [u8]) ->
     ensures { λ _. ⌜ now (text .exit) ≡ putAt 0 (acceptedText (now (request .entry)) (now (result .entry))) (now (text .entry)) ⌝ }
     ensures { λ r. ⌜ r ≤ 100 + limit * 80 ⌝ }
 {
-    let n = records::data_count(Kind::EB21, request);
+    let n = listed::data_count(Kind::EB21, request);
     let sums = sums::sums_of(PairKind::Debit, request, result, results);
     let at = lines::put_accepted(text, 0, n as u64, sums);
     put_requests(request, result, results, n, text, at)
@@ -110,7 +110,7 @@ fn compose(request: &[u8], result: &[u8], frame: &mut [u8]) -> usize
     if answer.number != 0 {
         return lines::put_refusal(frame, 0, answer);
     }
-    let results = matching::results_for(PairKind::Debit, request, result);
+    let results = lookup::results_for(PairKind::Debit, request, result);
     put_all(request, result, &results, frame)
 }
 

@@ -5,7 +5,7 @@ ghost use lib.ListN.{length};
 ghost use Rattle.posting.specs.Decimal.{widthOf};
 ghost use Rattle.posting.specs.Lines.{numberThen, codeLine};
 ghost use Rattle.posting.specs.Puts.{putAt};
-use text::numbers;
+use numbers::base_ten;
 
 pub(crate) fn put_bytes(text: &mut [u8], at: usize, s: &[u8]) -> usize
     requires { ⌜ at + length (now s) ≤ length (now text) ⌝ }
@@ -47,7 +47,7 @@ pub(crate) fn put_number(text: &mut [u8], at: usize, n: u64, end: u8) -> usize
     let w = width(n);
     let mut i = 0;
     while i < w {
-        text[at + i] = numbers::digit_at(n, w, i);
+        text[at + i] = base_ten::digit_at(n, w, i);
         i += 1;
     }
     text[at + w] = end;
@@ -62,10 +62,10 @@ fn code_line(code: u64) -> [u8; 5]
         return *b"----\n";
     }
     [
-        numbers::letter(code, 0),
-        numbers::letter(code, 1),
-        numbers::letter(code, 2),
-        numbers::letter(code, 3),
+        base_ten::letter(code, 0),
+        base_ten::letter(code, 1),
+        base_ten::letter(code, 2),
+        base_ten::letter(code, 3),
         b'\n',
     ]
 }

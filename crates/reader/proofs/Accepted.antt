@@ -11,27 +11,38 @@ use lib.ListN.{length, getD}
 use Rattle.laws.specs.Part.{part}
 use Rattle.laws.proofs.Bools.{and-right}
 use Rattle.text.specs.Characters.{digits}
-use Rattle.text.specs.Numbers.{valueOf, says}
-use Rattle.tables.specs.declared.kinds.Kind.{Kind}
-use Rattle.tables.specs.declared.kinds.Role.the-variants.{Data}
-use Rattle.tables.specs.declared.kinds.Named.{Named}
-use Rattle.tables.specs.declared.kinds.Named.the-variants.{Is, Unknown}
-use Rattle.tables.specs.Kinds.{kindOf}
+use Rattle.numbers.specs.Numbers.{valueOf, says}
+use Rattle.kinds.specs.declared.of_files.Kind.{Kind}
+use Rattle.kinds.specs.declared.of_files.Role.the-variants.{Data}
+use Rattle.kinds.specs.declared.of_files.Named.{Named}
+use Rattle.kinds.specs.declared.of_files.Named.the-variants.{Is, Unknown}
+use Rattle.kinds.specs.Kinds.{kindOf}
 use Rattle.tables.specs.Rows.{blank}
 use Rattle.tables.specs.Tables.{rowsOf}
 use Rattle.tables.specs.Totals.{noTotal, totalsOf}
+use Rattle.answers.specs.Answers.{accepted}
+use Rattle.answers.proofs.Refusals.{number-of}
 use Rattle.layout.specs.Rules.{holds}
-use Rattle.reader.specs.Records.{recordOf, countOf, dataOf, roleOf, trailerOf}
-use Rattle.reader.specs.Totals.{quantityOf, totalHolds}
+use Rattle.records.specs.Records.{recordOf, countOf, dataOf, trailerOf}
+use Rattle.reader.specs.Judged.{roleOf}
+use Rattle.records.specs.Quantities.{quantityOf}
+use Rattle.reader.specs.Totals.{totalHolds}
 use Rattle.reader.specs.Reading.{readAs, readNamed, readOf}
 use Rattle.reader.specs.Meets.{Meets}
-use Rattle.reader.proofs.Exact.{accepted-meets}
+use Rattle.reader.proofs.Exact.{read-exact, accepted-meets}
 
 -- digits that say a number have it as their value
 pub says-value : (s : List ℕ) (n : ℕ) → says s n ≡ true → valueOf s ≡ n
 unfolding says
 says-value s n t =
     eqb-true (valueOf s) n (and-right (digits s) (eqb (valueOf s) n) (and-right (leb (length s) 19) (digits s && eqb (valueOf s) n) t))
+
+-- a file whose answer has the number 0 is accepted, and one that meets every rule has it
+pub read-zero : (k : Kind) (s : List ℕ) → readAs k s .number ≡ 0 → readAs k s ≡ accepted
+read-zero k s z = read-exact k s .1 (accepted-meets k s z)
+
+pub meets-zero : (k : Kind) (s : List ℕ) → Meets k s → readAs k s .number ≡ 0
+meets-zero k s m = number-of (read-exact k s .1 m)
 
 -- the value of a total of an accepted file is what its records give
 pub total-value :

@@ -12,20 +12,21 @@ use lib.Seq.{length-take-le}
 use Rattle.laws.specs.Part.{part}
 use Rattle.laws.proofs.Parts.{part-length, part-at, part-take}
 use Rattle.text.proofs.Classes.{within-low, within-high, each-at}
-use Rattle.tables.specs.declared.kinds.Kind.{Kind}
-use Rattle.tables.specs.declared.kinds.Kind.the-variants.{EB13, EB14, EB21, EB22}
-use Rattle.tables.specs.declared.kinds.Role.the-variants.{Data, Trailer}
+use Rattle.kinds.specs.declared.of_files.Kind.{Kind}
+use Rattle.kinds.specs.declared.of_files.Kind.the-variants.{EB13, EB14, EB21, EB22}
+use Rattle.kinds.specs.declared.of_files.Role.the-variants.{Data, Trailer}
 use Rattle.tables.specs.declared.rows.Row.{Row}
-use Rattle.tables.specs.Kinds.{fixedOf}
+use Rattle.kinds.specs.Kinds.{fixedOf}
 use Rattle.tables.specs.Rows.{row, only, blank}
 use Rattle.tables.specs.Tables.{dataFront, enrolmentData, debitData, eb13Data, eb14Data, eb21Data, eb22Data, trailerFront, enrolmentTrailer, eb13Trailer, eb14Trailer, eb21Trailer, eb22Trailer, rowsOf}
 use Rattle.tables.proofs.Tiling.{size-least}
-use Rattle.layout.specs.Answers.{accepted}
+use Rattle.answers.specs.Answers.{accepted}
 use Rattle.layout.specs.Rules.{meets, holds}
-use Rattle.reader.specs.Records.{recordAt, recordOf, countOf, roleOf}
+use Rattle.records.specs.Records.{recordAt, recordOf, countOf}
+use Rattle.reader.specs.Judged.{roleOf}
 use Rattle.reader.specs.Reading.{readAs}
 use Rattle.reader.specs.Meets.{Meets}
-use Rattle.reader.proofs.Places.{record-inside}
+use Rattle.records.proofs.Places.{record-inside}
 use Rattle.reader.proofs.Exact.{read-exact}
 
 -- the first row of a data record and of a trailer, of every kind, is its mark

@@ -3,7 +3,7 @@
 use Prim.Native.Nat.{ℕ, _+_, _<_}
 use mathlib.Core.Bool.{true, false}
 use mathlib.Core.List.{List}
-use mathlib.Core.Path.{_≡_, refl, sym, _∙_, ap}
+use mathlib.Core.Path.{_≡_, refl, sym, _∙_}
 use mathlib.Core.Logic.{_↔_, ⊎-elim}
 use native.Mathlib.Nat.{eq-or-lt-of-le}
 use native.Mathlib.Omega.{arith}
@@ -13,16 +13,17 @@ use lib.ListN.{length, getD}
 use Rattle.laws.specs.Least.{least}
 use Rattle.laws.proofs.Bools.{either}
 use Rattle.laws.proofs.Leasts.{Least, least-is, least-before}
-use Rattle.tables.specs.declared.kinds.Kind.{Kind}
-use Rattle.tables.specs.Kinds.{limit}
+use Rattle.kinds.specs.declared.of_files.Kind.{Kind}
+use Rattle.kinds.specs.Kinds.{limit}
 use Rattle.tables.specs.Rows.{blank}
 use Rattle.tables.specs.Totals.{totalsOf}
-use Rattle.layout.specs.declared.answers.Answer.{Answer}
-use Rattle.layout.specs.Answers.{accepted, refused, _then_, firstTold}
+use Rattle.answers.specs.declared.told.Answer.{Answer}
+use Rattle.answers.specs.Answers.{accepted, refused, _then_, firstTold}
 use Rattle.layout.specs.Judging.{rowTells, judgeBy, judgeOf}
-use Rattle.layout.proofs.Told.{then-first, then-second, told, First, Good, told-all}
+use Rattle.answers.proofs.Refusals.{number-of, then-first, then-second, told, First, Good, told-all}
 use Rattle.layout.proofs.Judged.{row-good, row-bad, row-holds, broken-number}
-use Rattle.reader.specs.Records.{countOf, dataOf, recordOf, judgedAt, recordsTell}
+use Rattle.records.specs.Records.{countOf, dataOf, recordOf}
+use Rattle.reader.specs.Judged.{judgedAt, recordsTell}
 use Rattle.reader.specs.Totals.{totalTells, totalsTell}
 use Rattle.reader.specs.Keys.{repeats, keysTell}
 use Rattle.reader.specs.Reading.{isWhole, lengthTells, readAs}
@@ -35,22 +36,22 @@ module _ (k : Kind) (s : List ℕ) where
   -- a bad length is told as it is
   read-stops : (a : Answer) → lengthTells k s ≡ a → (a .number ≡ 0 → ⊥) → readAs k s ≡ a
   unfolding readAs
-  read-stops a e ne = then-first _ _ (λ z. ne (ap (λ (b : Answer). b .number) (sym e) ∙ z)) ∙ e
+  read-stops a e ne = then-first _ _ (λ z. ne (number-of (sym e) ∙ z)) ∙ e
 
   -- the stages after a good one
   after-length : Lengths k s → readAs k s ≡ (recordsTell k s then totalsTell k s then keysTell k s)
   unfolding readAs
-  after-length l = then-second _ _ (ap (λ (a : Answer). a .number) (good-length k s l))
+  after-length l = then-second _ _ (number-of (good-length k s l))
 
   after-records : RowsHold k s (countOf k s) → (recordsTell k s then totalsTell k s then keysTell k s) ≡ (totalsTell k s then keysTell k s)
   unfolding recordsTell
   after-records h =
-      then-second _ _ (ap (λ (a : Answer). a .number) (told-all (judgedAt k s) (countOf k s) (λ i l. good-record k s i (h i l))))
+      then-second _ _ (number-of (told-all (judgedAt k s) (countOf k s) (λ i l. good-record k s i (h i l))))
 
   after-totals : TotalsHold k s (length (totalsOf k)) → (totalsTell k s then keysTell k s) ≡ keysTell k s
   unfolding totalsTell
   after-totals h =
-      then-second _ _ (ap (λ (a : Answer). a .number) (told-all (totalTells k s) (length (totalsOf k)) (λ j l. good-total k s j (h j l))))
+      then-second _ _ (number-of (told-all (totalTells k s) (length (totalsOf k)) (λ j l. good-total k s j (h j l))))
 
   -- the record of the first refusal, and its first broken row
   tells : ℕ → ℕ → Answer
@@ -65,7 +66,7 @@ module _ (k : Kind) (s : List ℕ) where
   says-row l i f = ⊎-elim none found (told (tells i) (length (rowsAt k s i)))
     where
       none : Good (tells i) (length (rowsAt k s i)) → Says k s (judgedAt k s i)
-      none g = absurd (f .bad (ap (λ (a : Answer). a .number) (judged-tells i ∙ g .told)))
+      none g = absurd (f .bad (number-of (judged-tells i ∙ g .told)))
 
       fails : (j : ℕ) → First (tells i) (length (rowsAt k s i)) j → rowHolds k s i j ≡ false
       fails j r =
@@ -84,7 +85,7 @@ module _ (k : Kind) (s : List ℕ) where
   unfolding recordsTell
   says-records l p =
       let f = p .1 in
-      rw (after-length l, then-first (recordsTell k s) (totalsTell k s then keysTell k s) (λ z. f .bad (ap (λ (a : Answer). a .number) (sym (f .told)) ∙ z)), f .told)
+      rw (after-length l, then-first (recordsTell k s) (totalsTell k s then keysTell k s) (λ z. f .bad (number-of (sym (f .told)) ∙ z)), f .told)
       (says-row l (p .0) f)
 
   says-totals : Lengths k s → RowsHold k s (countOf k s) → ((j : ℕ) × First (totalTells k s) (length (totalsOf k)) j) → Says k s (readAs k s)
@@ -95,7 +96,7 @@ module _ (k : Kind) (s : List ℕ) where
       rw (
         after-length l,
         after-records h,
-        then-first (totalsTell k s) (keysTell k s) (λ z. f .bad (ap (λ (a : Answer). a .number) (sym (f .told)) ∙ z)),
+        then-first (totalsTell k s) (keysTell k s) (λ z. f .bad (number-of (sym (f .told)) ∙ z)),
         f .told,
         bad-total k s j (fails j f),
       ) (Says.total j l h (f .below) (fails j f) (λ m b. total-good k s m (f .before m b)))
@@ -140,7 +141,7 @@ module _ (k : Kind) (s : List ℕ) where
       part f = stops (refused 2) (length-short k s f) (λ z. omega arith) (Says.short f)
 
       fits : isWhole k s ≡ true → leb (countOf k s) (limit + 2) ≡ true → Says k s (readAs k s)
-      fits t u = says-lengths (length-good k s (ap (λ (a : Answer). a .number) (length-right k s t u)))
+      fits t u = says-lengths (length-good k s (number-of (length-right k s t u)))
 
       over : isWhole k s ≡ true → leb (countOf k s) (limit + 2) ≡ false → Says k s (readAs k s)
       over t f = stops (refused 3) (length-long k s t f) (λ z. omega arith) (Says.long t (leb-false (countOf k s) (limit + 2) f))
@@ -160,7 +161,7 @@ module _ (k : Kind) (s : List ℕ) where
   -- *Exact reading*: accepted exactly when the file meets every rule
   pub read-exact : (readAs k s ≡ accepted) ↔ Meets k s
   read-exact = (
-    λ e. said-good (readAs k s) first-refusal (ap (λ (a : Answer). a .number) e),
+    λ e. said-good (readAs k s) first-refusal (number-of e),
     λ m. after-length (m .lengths) ∙ (after-records (m .rows) ∙ (after-totals (m .totals) ∙ keys-good k s (repeat-none k s (m .keys)))),
   )
 

@@ -11,11 +11,11 @@ use borrow.Author.Tests.{eqb-true, leb-true, eq-eqb, le-leb}
 use lib.Dec.{eqb, leb}
 use lib.ListN.{length}
 use Rattle.laws.proofs.Bools.{and-left, and-right, either}
-use Rattle.layout.specs.declared.answers.Answer.{Answer}
-use Rattle.tables.specs.declared.kinds.Kind.{Kind}
-use Rattle.layout.specs.Answers.{accepted, refused}
-use Rattle.tables.specs.Kinds.{fixedOf, limit}
-use Rattle.reader.specs.Records.{countOf}
+use Rattle.answers.specs.declared.told.Answer.{Answer}
+use Rattle.kinds.specs.declared.of_files.Kind.{Kind}
+use Rattle.answers.specs.Answers.{accepted, refused}
+use Rattle.kinds.specs.Kinds.{fixedOf, limit}
+use Rattle.records.specs.Records.{countOf}
 use Rattle.reader.specs.Reading.{isWhole, lengthTells}
 use Rattle.reader.specs.Meets.{Lengths}
 

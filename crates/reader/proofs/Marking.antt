@@ -6,17 +6,19 @@ use Rattle.laws.specs.Least.{least, further, some, none}
 use Rattle.laws.specs.Part.{part, differ, same}
 use Rattle.laws.specs.Sum.{sum}
 use Rattle.text.specs.Characters.{within, takes, stopsAt, front, each, digits, spaces, zeros, codeText, filled}
-use Rattle.text.specs.Numbers.{digitOf, valueTo, valueOf, digitsOf, says, wordOf}
-use Rattle.text.specs.Dates.{monthDays, leapDay, daysOf, hasDay, isDate}
-use Rattle.tables.specs.declared.kinds.Kind.{Kind}
-use Rattle.tables.specs.declared.kinds.Kind.the-variants.{EB13, EB14, EB21, EB22}
+use Rattle.numbers.specs.Numbers.{digitOf, valueTo, valueOf, digitsOf, says, wordOf}
+use Rattle.numbers.specs.Dates.{monthDays, leapDay, daysOf, hasDay, isDate}
+use Rattle.kinds.specs.declared.of_files.Kind.{Kind}
+use Rattle.kinds.specs.declared.of_files.Kind.the-variants.{EB13, EB14, EB21, EB22}
 use Rattle.tables.specs.Tables.{headerFront, enrolmentHeader, debitHeader, trailerFront, enrolmentTrailer, eb13Trailer, eb14Trailer, eb21Trailer, eb22Trailer}
 use Rattle.tables.specs.Totals.{enrolmentTotals, eb21Totals, eb22Totals}
-use Rattle.layout.specs.Answers.{accepted, refused, refuses, _then_, refusesAt, toldAt, firstTold}
+use Rattle.answers.specs.Answers.{accepted, refused, refuses, _then_, refusesAt, toldAt, firstTold}
 use Rattle.layout.specs.Rules.{institution, meets, holds}
 use Rattle.layout.specs.Judging.{rowTells, judgeBy, judgeOf}
-use Rattle.reader.specs.Records.{recordAt, countOf, roleOf, judgedAt, recordsTell}
-use Rattle.reader.specs.Totals.{worth, worthAt, quantityOf, totalHolds, totalTells, totalsTell}
+use Rattle.records.specs.Records.{recordAt, countOf}
+use Rattle.reader.specs.Judged.{roleOf, judgedAt, recordsTell}
+use Rattle.records.specs.Quantities.{worth, worthAt, quantityOf}
+use Rattle.reader.specs.Totals.{totalHolds, totalTells, totalsTell}
 use Rattle.reader.specs.Keys.{repeats, repeatTold, keysTell}
 use Rattle.reader.specs.Reading.{isWhole, lengthTells, readAs}
 use Rattle.reader.specs.Samples.{all, code, letters, headerRest, headerFor, trailerFor, noTotals, emptyOn, emptyFile}

@@ -1,10 +1,10 @@
--- Where records lie in a file.
+-- Where keys and totals lie in a file.
 -- Assumes nothing.
 use Prim.Native.Nat.{ℕ, _+_, _*_, _≤_, _<_}
 use mathlib.Core.List.{List}
 use mathlib.Core.Bool.{true}
 use mathlib.Core.Path.{_≡_, refl, _∙_, ap}
-use native.Mathlib.Nat.{le-trans, suc-mul, mul-le-mul-right, div-mul-le-self, div-le-self}
+use native.Mathlib.Nat.{suc-mul}
 use native.Mathlib.Numerals.{add-one}
 use native.Mathlib.Omega.{arith}
 use borrow.Author.Tests.{leb-true}
@@ -15,30 +15,15 @@ use Rattle.laws.specs.Part.{part}
 use Rattle.laws.proofs.Every.{every, every-at}
 use Rattle.laws.proofs.Leasts.{least-same}
 use Rattle.laws.proofs.Parts.{part-part}
-use Rattle.tables.specs.declared.kinds.Kind.{Kind}
-use Rattle.tables.specs.declared.kinds.Kind.the-variants.{EB13, EB14, EB21, EB22}
+use Rattle.kinds.specs.declared.of_files.Kind.{Kind}
+use Rattle.kinds.specs.declared.of_files.Kind.the-variants.{EB13, EB14, EB21, EB22}
 use Rattle.tables.specs.declared.totals.Total.{Total}
-use Rattle.tables.specs.Kinds.{fixedOf}
+use Rattle.kinds.specs.Kinds.{fixedOf}
 use Rattle.tables.specs.Totals.{noTotal, enrolmentTotals, eb21Totals, eb22Totals, totalsOf}
-use Rattle.tables.proofs.Tiling.{size-least}
-use Rattle.reader.specs.Records.{recordAt, countOf, dataOf}
+use Rattle.records.specs.Records.{recordAt, countOf, dataOf}
 use Rattle.keys.specs.Keys.{keyIn, sharesIn, repeatsIn}
 use Rattle.reader.specs.Keys.{keyAt, sharesKey, repeats, repeatTold, keysTell}
-
--- record i of a file lies inside it
-pub record-inside : (k : Kind) (s : List ℕ) (i : ℕ) → i < countOf k s → i * fixedOf k .size + fixedOf k .size ≤ length s
-unfolding countOf
-record-inside k s i h =
-    rw (← suc-mul i (fixedOf k .size)) (le-trans (mul-le-mul-right (fixedOf k .size) h) (div-mul-le-self (length s) (fixedOf k .size)))
-
--- there are no more records than bytes
-pub count-small : (k : Kind) (s : List ℕ) → countOf k s ≤ length s
-unfolding countOf
-count-small k s = div-le-self (length s) (fixedOf k .size)
-
--- a size divides
-pub size-pos : (k : Kind) → 0 < fixedOf k .size
-size-pos k = omega (arith, size-least k)
+use Rattle.records.proofs.Places.{record-inside}
 
 -- a key lies inside its record
 pub key-inside : (k : Kind) → fixedOf k .key .start + fixedOf k .key .size ≤ fixedOf k .size

@@ -3,7 +3,7 @@
 use Prim.Native.Nat.{ℕ, _+_, _-_, _<_}
 use mathlib.Core.Bool.{true, false}
 use mathlib.Core.List.{List}
-use mathlib.Core.Path.{_≡_, sym, _∙_, ap}
+use mathlib.Core.Path.{_≡_, sym, _∙_}
 use mathlib.Core.Logic.{⊎-elim}
 use native.Mathlib.Omega.{arith}
 use borrow.Author.Tests.{lt-ltb, le-ltb, ltb-true, ltb-false}
@@ -14,14 +14,15 @@ use Rattle.laws.specs.Part.{same}
 use Rattle.laws.proofs.Bools.{either, clash}
 use Rattle.laws.proofs.Leasts.{least-none, some-true, some-false}
 use Rattle.laws.proofs.Parts.{same-equal, same-self}
-use Rattle.tables.specs.declared.kinds.Kind.{Kind}
-use Rattle.tables.specs.Kinds.{fixedOf}
+use Rattle.kinds.specs.declared.of_files.Kind.{Kind}
+use Rattle.kinds.specs.Kinds.{fixedOf}
 use Rattle.tables.specs.Totals.{noTotal, totalsOf}
-use Rattle.layout.specs.declared.answers.Answer.{Answer}
-use Rattle.layout.specs.Answers.{accepted, refusedAt}
+use Rattle.answers.proofs.Refusals.{number-of}
+use Rattle.answers.specs.Answers.{accepted, refusedAt}
 use Rattle.layout.specs.Judging.{judgeOf}
 use Rattle.layout.proofs.Judged.{judge-exact}
-use Rattle.reader.specs.Records.{countOf, dataOf, judgedAt}
+use Rattle.records.specs.Records.{countOf, dataOf}
+use Rattle.reader.specs.Judged.{judgedAt}
 use Rattle.reader.specs.Totals.{totalTells}
 use Rattle.reader.specs.Keys.{keyAt, sharesKey, repeats, repeatTold, keysTell}
 use Rattle.reader.specs.Meets.{rowsAt, rowHolds, totalAt, Distinct}
@@ -47,7 +48,7 @@ module _ (k : Kind) (s : List ℕ) where
 
   pub total-good : (j : ℕ) → totalTells k s j .number ≡ 0 → totalAt k s j ≡ true
   total-good j e =
-      ⊎-elim (λ t. t) (λ f. absurd (let z : _≡_ {A = ℕ} 6 0 = ap (λ (a : Answer). a .number) (sym (bad-total j f)) ∙ e in omega arith))
+      ⊎-elim (λ t. t) (λ f. absurd (let z : _≡_ {A = ℕ} 6 0 = number-of (sym (bad-total j f)) ∙ e in omega arith))
       (either (totalAt k s j))
 
   -- keys: no record repeats, or the first that does is told

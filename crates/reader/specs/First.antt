@@ -4,14 +4,14 @@ use mathlib.Core.Bool.{true, false}
 use mathlib.Core.List.{List}
 use mathlib.Core.Path.{_≡_}
 use lib.ListN.{length, getD}
-use Rattle.tables.specs.declared.kinds.Kind.{Kind}
-use Rattle.tables.specs.Kinds.{fixedOf, limit}
+use Rattle.kinds.specs.declared.of_files.Kind.{Kind}
+use Rattle.kinds.specs.Kinds.{fixedOf, limit}
 use Rattle.tables.specs.Rows.{blank}
 use Rattle.tables.specs.Totals.{noTotal, totalsOf}
-use Rattle.layout.specs.declared.answers.Answer.{Answer}
-use Rattle.layout.specs.Answers.{accepted, refused, refusedAt}
+use Rattle.answers.specs.declared.told.Answer.{Answer}
+use Rattle.answers.specs.Answers.{accepted, refused, refusedAt}
 use Rattle.layout.specs.Judging.{brokenAt}
-use Rattle.reader.specs.Records.{countOf, dataOf}
+use Rattle.records.specs.Records.{countOf, dataOf}
 use Rattle.reader.specs.Keys.{repeats}
 use Rattle.reader.specs.Reading.{isWhole}
 use Rattle.reader.specs.Meets.{Lengths, rowsAt, rowHolds, RowsHold, totalAt, TotalsHold, Meets}

@@ -5,11 +5,11 @@ use mathlib.Core.List.{List}
 use lib.Dec.{ltb}
 use Rattle.laws.specs.Least.{least, some}
 use Rattle.laws.specs.Part.{part, same}
-use Rattle.layout.specs.declared.answers.Answer.{Answer}
-use Rattle.tables.specs.declared.kinds.Kind.{Kind}
-use Rattle.layout.specs.Answers.{accepted, refusedAt}
-use Rattle.tables.specs.Kinds.{fixedOf}
-use Rattle.reader.specs.Records.{recordOf, dataOf}
+use Rattle.answers.specs.declared.told.Answer.{Answer}
+use Rattle.kinds.specs.declared.of_files.Kind.{Kind}
+use Rattle.answers.specs.Answers.{accepted, refusedAt}
+use Rattle.kinds.specs.Kinds.{fixedOf}
+use Rattle.records.specs.Records.{recordOf, dataOf}
 
 -- the key of data record i + 1
 unfoldable pub keyAt : Kind → List ℕ → ℕ → List ℕ

@@ -1,5 +1,5 @@
 -- One whole file.
-pub mod Records
+pub mod Judged
 pub mod Totals
 pub mod Keys
 pub mod Reading

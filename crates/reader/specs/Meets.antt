@@ -4,14 +4,15 @@ use mathlib.Core.Bool.{Bool, true}
 use mathlib.Core.List.{List}
 use mathlib.Core.Path.{_≡_}
 use lib.ListN.{length, getD}
-use Rattle.tables.specs.declared.kinds.Kind.{Kind}
+use Rattle.kinds.specs.declared.of_files.Kind.{Kind}
 use Rattle.tables.specs.declared.rows.Row.{Row}
-use Rattle.tables.specs.Kinds.{fixedOf, limit}
+use Rattle.kinds.specs.Kinds.{fixedOf, limit}
 use Rattle.tables.specs.Rows.{blank}
 use Rattle.tables.specs.Tables.{rowsOf}
 use Rattle.tables.specs.Totals.{noTotal, totalsOf}
 use Rattle.layout.specs.Rules.{holds}
-use Rattle.reader.specs.Records.{countOf, dataOf, recordOf, roleOf}
+use Rattle.records.specs.Records.{countOf, dataOf, recordOf}
+use Rattle.reader.specs.Judged.{roleOf}
 use Rattle.reader.specs.Totals.{totalHolds}
 use Rattle.reader.specs.Keys.{keyAt}
 

@@ -4,13 +4,14 @@ use mathlib.Core.Bool.{Bool, cond, _&&_}
 use mathlib.Core.List.{List}
 use lib.Dec.{leb, eqb}
 use lib.ListN.{length}
-use Rattle.layout.specs.declared.answers.Answer.{Answer}
-use Rattle.tables.specs.declared.kinds.Kind.{Kind}
-use Rattle.tables.specs.declared.kinds.Named.{Named}
-use Rattle.tables.specs.declared.kinds.Named.the-variants.{Is, Unknown}
-use Rattle.layout.specs.Answers.{accepted, refused, _then_}
-use Rattle.tables.specs.Kinds.{fixedOf, kindOf, limit}
-use Rattle.reader.specs.Records.{countOf, recordsTell}
+use Rattle.answers.specs.declared.told.Answer.{Answer}
+use Rattle.kinds.specs.declared.of_files.Kind.{Kind}
+use Rattle.kinds.specs.declared.of_files.Named.{Named}
+use Rattle.kinds.specs.declared.of_files.Named.the-variants.{Is, Unknown}
+use Rattle.answers.specs.Answers.{accepted, refused, _then_}
+use Rattle.kinds.specs.Kinds.{fixedOf, kindOf, limit}
+use Rattle.records.specs.Records.{countOf}
+use Rattle.reader.specs.Judged.{recordsTell}
 use Rattle.reader.specs.Totals.{totalsTell}
 use Rattle.reader.specs.Keys.{keysTell}
 

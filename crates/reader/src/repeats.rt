@@ -1,14 +1,14 @@
 // No two data records share a key.
 ghost use mathlib.Core.Path.{_≡_};
 ghost use Prim.Native.Nat.{_+_, _≤_};
-ghost use Rattle.tables.specs.Kinds.{limit};
-ghost use Rattle.reader.specs.Records.{countOf};
+ghost use Rattle.kinds.specs.Kinds.{limit};
+ghost use Rattle.records.specs.Records.{countOf};
 ghost use Rattle.reader.specs.Keys.{keysTell};
-use crate::records;
+use answers::told::Answer;
 use keys::repeats;
-use layout::answers::Answer;
-use tables::kinds::Fixed;
-use tables::kinds::Kind;
+use kinds::of_files::Fixed;
+use kinds::of_files::Kind;
+use records::listed;
 
 // The smallest record number that repeats an earlier key.
 pub(crate) fn keys_tell(kind: Kind, file: &[u8]) -> Answer
@@ -17,7 +17,7 @@ pub(crate) fn keys_tell(kind: Kind, file: &[u8]) -> Answer
     ensures { λ r. ⌜ r ≡ keysTell kind (now (file .entry)) ⌝ }
 {
     let fixed = Fixed::of(kind);
-    let n = records::count(kind, file) - 2;
+    let n = listed::count(kind, file) - 2;
     let i = repeats::first_repeat(
         file,
         n,

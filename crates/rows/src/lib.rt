@@ -1,2 +1,2 @@
 // The rows of every record, as constant tables.
-pub mod records;
+pub mod by_record;

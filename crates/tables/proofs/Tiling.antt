@@ -11,12 +11,12 @@ use borrow.Author.Tests.{eqb-true}
 use lib.Dec.{eqb}
 use lib.ListN.{length, getD}
 use Rattle.laws.proofs.Bools.{and-left, and-right, or-cases}
-use Rattle.tables.specs.declared.kinds.Kind.{Kind}
-use Rattle.tables.specs.declared.kinds.Kind.the-variants.{EB13, EB14, EB21, EB22}
-use Rattle.tables.specs.declared.kinds.Role.{Role}
-use Rattle.tables.specs.declared.kinds.Role.the-variants.{Header, Data, Trailer}
+use Rattle.kinds.specs.declared.of_files.Kind.{Kind}
+use Rattle.kinds.specs.declared.of_files.Kind.the-variants.{EB13, EB14, EB21, EB22}
+use Rattle.kinds.specs.declared.of_files.Role.{Role}
+use Rattle.kinds.specs.declared.of_files.Role.the-variants.{Header, Data, Trailer}
 use Rattle.tables.specs.declared.rows.Row.{Row}
-use Rattle.tables.specs.Kinds.{fixedOf}
+use Rattle.kinds.specs.Kinds.{fixedOf}
 use Rattle.tables.specs.Rows.{blank, next, tilesFrom, tiles}
 use Rattle.tables.specs.Tables.{headerFront, enrolmentHeader, debitHeader, dataFront, enrolmentData, debitData, eb13Data, eb14Data, eb21Data, eb22Data, trailerFront, enrolmentTrailer, eb13Trailer, eb14Trailer, eb21Trailer, eb22Trailer, rowsOf}
 

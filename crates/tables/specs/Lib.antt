@@ -1,5 +1,4 @@
 -- The tables.
-pub mod Kinds
 pub mod Codes
 pub mod Rows
 pub mod Tables

@@ -1,8 +1,8 @@
 -- The trailer's totals: item, start, length, and the quantity that the item must say.
 use Prim.Native.Nat.{ℕ}
 use mathlib.Core.List.{List, [], _∷_}
-use Rattle.tables.specs.declared.kinds.Kind.{Kind}
-use Rattle.tables.specs.declared.kinds.Kind.the-variants.{EB13, EB14, EB21, EB22}
+use Rattle.kinds.specs.declared.of_files.Kind.{Kind}
+use Rattle.kinds.specs.declared.of_files.Kind.the-variants.{EB13, EB14, EB21, EB22}
 use Rattle.tables.specs.declared.totals.Total.{Total}
 use Rattle.tables.specs.declared.totals.Quantity.{Quantity}
 use Rattle.tables.specs.declared.totals.Quantity.the-variants.{Records, OfKind, Amounts, Marked, AmountsMarked}

@@ -3,7 +3,7 @@ ghost use mathlib.Core.Path.{_≡_};
 ghost use Prim.Native.Nat.{_<_};
 ghost use lib.ListN.{length, getD};
 ghost use Rattle.tables.specs.Copied.{noItem, enrolmentCopied, debitCopied, copiedOf};
-use crate::kinds::Kind;
+use kinds::of_files::Kind;
 
 // Item, start, length.
 pub struct Copied(pub u64, pub usize, pub usize);

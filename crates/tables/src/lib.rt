@@ -1,6 +1,5 @@
-// The tables: kinds with their fixed numbers, the rows of every record, totals, copied items, failure codes.
+// The tables: rows of a record and their classes, totals, copied items, failure codes.
 pub mod codes;
 pub mod copied;
-pub mod kinds;
 pub mod rows;
 pub mod totals;

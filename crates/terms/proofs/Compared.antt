@@ -11,16 +11,15 @@ use Rattle.laws.proofs.Bools.{either, clash}
 use Rattle.laws.proofs.Parts.{same-equal, same-self}
 use Rattle.tables.specs.declared.copied.Copied.{Copied}
 use Rattle.tables.specs.Copied.{noItem}
-use Rattle.layout.specs.Answers.{accepted, refusedAt}
-use Rattle.layout.proofs.Told.{told, told-all, First, Good}
-use Rattle.reader.specs.Records.{recordOf}
-use Rattle.terms.specs.declared.kinds.PairKind.{PairKind}
+use Rattle.answers.specs.Answers.{accepted, refusedAt}
+use Rattle.answers.proofs.Refusals.{told, told-all, First, Good, number-of}
+use Rattle.records.specs.Records.{recordOf}
+use Rattle.kinds.specs.declared.of_pairs.PairKind.{PairKind}
 use Rattle.terms.specs.declared.items.Compared.the-variants.{Headers}
-use Rattle.terms.specs.Kinds.{requestKind, resultKind}
+use Rattle.kinds.specs.Pairs.{requestKind, resultKind}
 use Rattle.terms.specs.Items.{comparedOf, agrees, itemTells, itemsTell}
 use Rattle.terms.specs.Meeting.{headersTell}
 use Rattle.terms.specs.Same.{SameItem, SameTo, SameItems, HeadersAgree}
-use Rattle.terms.proofs.Zero.{number-of}
 use Rattle.terms.proofs.Differ.{item-good, item-bad}
 
 -- the test of one item

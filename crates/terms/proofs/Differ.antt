@@ -8,8 +8,8 @@ use native.Mathlib.Omega.{arith}
 use lib.ListN.{length, getD}
 use Rattle.tables.specs.declared.copied.Copied.{Copied}
 use Rattle.tables.specs.Copied.{noItem}
-use Rattle.layout.specs.Answers.{accepted, refusedAt}
-use Rattle.layout.proofs.Told.{So-far, told-more, told-stop}
+use Rattle.answers.specs.Answers.{accepted, refusedAt}
+use Rattle.answers.proofs.Refusals.{So-far, told-more, told-stop}
 use Rattle.terms.specs.Items.{agrees, itemTells, itemsTell}
 
 module _ (number rec : ℕ) (items : List Copied) (a b : List ℕ) where

@@ -13,14 +13,14 @@ use Rattle.laws.specs.Part.{part}
 use Rattle.laws.proofs.Every.{every, every-at}
 use Rattle.laws.proofs.Parts.{part-join}
 use Rattle.tables.specs.declared.copied.Copied.{Copied}
-use Rattle.tables.specs.Kinds.{fixedOf}
+use Rattle.kinds.specs.Kinds.{fixedOf}
 use Rattle.tables.specs.Copied.{noItem, among, itemsBut, enrolmentCopied, debitCopied}
 use Rattle.tables.specs.Tables.{dataFront, enrolmentData, debitData, eb13Data, eb21Data}
-use Rattle.terms.specs.declared.kinds.PairKind.{PairKind}
-use Rattle.terms.specs.declared.kinds.PairKind.the-variants.{Enrolment, Debit}
+use Rattle.kinds.specs.declared.of_pairs.PairKind.{PairKind}
+use Rattle.kinds.specs.declared.of_pairs.PairKind.the-variants.{Enrolment, Debit}
 use Rattle.terms.specs.declared.items.Compared.{Compared}
 use Rattle.terms.specs.declared.items.Compared.the-variants.{Headers, Records}
-use Rattle.terms.specs.Kinds.{requestKind, resultKind, markStart, agreed}
+use Rattle.kinds.specs.Pairs.{requestKind, resultKind, markStart, agreed}
 use Rattle.terms.specs.Items.{headerItems, comparedOf}
 use Rattle.terms.specs.Same.{Agree}
 

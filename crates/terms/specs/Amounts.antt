@@ -4,13 +4,20 @@ use mathlib.Core.Bool.{Bool, cond, _&&_}
 use mathlib.Core.List.{List, [], _∷_}
 use lib.Dec.{leb, ltb, eqb}
 use lib.ListN.{getD}
-use Rattle.tables.specs.Kinds.{fixedOf}
-use Rattle.layout.specs.declared.answers.Answer.{Answer}
-use Rattle.layout.specs.Answers.{accepted, refusedAt}
+use Rattle.kinds.specs.Kinds.{fixedOf}
+use Rattle.answers.specs.declared.told.Answer.{Answer}
+use Rattle.answers.specs.Answers.{accepted, refusedAt}
 use Rattle.layout.specs.Items.{amountOf, markOf, typeOf}
-use Rattle.terms.specs.declared.kinds.PairKind.{PairKind}
-use Rattle.terms.specs.declared.kinds.PairKind.the-variants.{Enrolment, Debit}
-use Rattle.terms.specs.Kinds.{requestKind}
+use Rattle.kinds.specs.declared.of_pairs.PairKind.{PairKind}
+use Rattle.kinds.specs.declared.of_pairs.PairKind.the-variants.{Enrolment, Debit}
+use Rattle.kinds.specs.Pairs.{requestKind}
+use Rattle.tables.specs.declared.totals.Quantity.{Quantity}
+use Rattle.tables.specs.declared.totals.Quantity.the-variants.{Records, Amounts}
+
+-- what a request asks, and what its result says was not taken: 1, or won
+abbrev pub asks : PairKind → Quantity
+asks Enrolment = Records
+asks Debit = Amounts
 
 -- the least that a part payment may take, for types "1" to "6"; type "1" takes none
 unfoldable pub bases : List ℕ

@@ -6,12 +6,12 @@ use lib.ListN.{length, getD, take}
 use Rattle.laws.specs.Part.{part, same}
 use Rattle.tables.specs.declared.copied.Copied.{Copied}
 use Rattle.tables.specs.Copied.{noItem, copiedOf}
-use Rattle.layout.specs.declared.answers.Answer.{Answer}
-use Rattle.layout.specs.Answers.{accepted, refusedAt, firstTold}
-use Rattle.terms.specs.declared.kinds.PairKind.{PairKind}
+use Rattle.answers.specs.declared.told.Answer.{Answer}
+use Rattle.answers.specs.Answers.{accepted, refusedAt, firstTold}
+use Rattle.kinds.specs.declared.of_pairs.PairKind.{PairKind}
 use Rattle.terms.specs.declared.items.Compared.{Compared}
 use Rattle.terms.specs.declared.items.Compared.the-variants.{Headers, Records}
-use Rattle.terms.specs.Kinds.{agreed, requestKind}
+use Rattle.kinds.specs.Pairs.{agreed, requestKind}
 
 abbrev item : ℕ → ℕ → ℕ → Copied
 item number start size = record { 0 = number; 1 = start; 2 = size }

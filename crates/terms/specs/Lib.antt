@@ -1,5 +1,4 @@
--- The pair kinds, and what one result record may say of its request.
-pub mod Kinds
+-- What one result record may say of its request.
 pub mod Items
 pub mod Amounts
 pub mod Meeting

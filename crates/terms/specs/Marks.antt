@@ -3,9 +3,9 @@ use Prim.Native.Nat.{ℕ, _+_}
 use mathlib.Core.List.{List}
 use lib.ListN.{getD}
 use Rattle.laws.specs.Part.{part}
-use Rattle.text.specs.Numbers.{wordOf}
-use Rattle.terms.specs.declared.kinds.PairKind.{PairKind}
-use Rattle.terms.specs.Kinds.{markStart}
+use Rattle.numbers.specs.Numbers.{wordOf}
+use Rattle.kinds.specs.declared.of_pairs.PairKind.{PairKind}
+use Rattle.kinds.specs.Pairs.{markStart}
 
 -- a result's mark and its code
 unfoldable pub markIn : PairKind → List ℕ → ℕ

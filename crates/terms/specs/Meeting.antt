@@ -1,12 +1,12 @@
 -- What is told of the two headers, and of a result record against its request.
 use Prim.Native.Nat.{ℕ}
 use mathlib.Core.List.{List}
-use Rattle.layout.specs.declared.answers.Answer.{Answer}
-use Rattle.layout.specs.Answers.{_then_}
-use Rattle.reader.specs.Records.{recordOf}
-use Rattle.terms.specs.declared.kinds.PairKind.{PairKind}
+use Rattle.answers.specs.declared.told.Answer.{Answer}
+use Rattle.answers.specs.Answers.{_then_}
+use Rattle.records.specs.Records.{recordOf}
+use Rattle.kinds.specs.declared.of_pairs.PairKind.{PairKind}
 use Rattle.terms.specs.declared.items.Compared.the-variants.{Headers, Records}
-use Rattle.terms.specs.Kinds.{requestKind, resultKind}
+use Rattle.kinds.specs.Pairs.{requestKind, resultKind}
 use Rattle.terms.specs.Items.{comparedOf, itemsTell}
 use Rattle.terms.specs.Amounts.{amountsTell}
 

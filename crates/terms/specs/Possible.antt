@@ -2,13 +2,13 @@
 use Prim.Native.Nat.{ℕ, _-_, _≤_, _<_}
 use mathlib.Core.List.{List}
 use mathlib.Core.Path.{_≡_}
-use Rattle.tables.specs.Kinds.{fixedOf}
+use Rattle.kinds.specs.Kinds.{fixedOf}
 use Rattle.layout.specs.Items.{amountOf, markOf, typeOf}
-use Rattle.layout.specs.declared.answers.Answer.{Answer}
-use Rattle.layout.specs.Answers.{refusedAt}
-use Rattle.terms.specs.declared.kinds.PairKind.{PairKind}
-use Rattle.terms.specs.declared.kinds.PairKind.the-variants.{Enrolment, Debit}
-use Rattle.terms.specs.Kinds.{requestKind}
+use Rattle.answers.specs.declared.told.Answer.{Answer}
+use Rattle.answers.specs.Answers.{refusedAt}
+use Rattle.kinds.specs.declared.of_pairs.PairKind.{PairKind}
+use Rattle.kinds.specs.declared.of_pairs.PairKind.the-variants.{Enrolment, Debit}
+use Rattle.kinds.specs.Pairs.{requestKind}
 use Rattle.terms.specs.Amounts.{baseOf}
 
 -- what a part payment of the request must take at least

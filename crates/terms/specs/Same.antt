@@ -6,10 +6,10 @@ use lib.ListN.{length, getD}
 use Rattle.laws.specs.Part.{part}
 use Rattle.tables.specs.declared.copied.Copied.{Copied}
 use Rattle.tables.specs.Copied.{noItem}
-use Rattle.reader.specs.Records.{recordOf}
-use Rattle.terms.specs.declared.kinds.PairKind.{PairKind}
+use Rattle.records.specs.Records.{recordOf}
+use Rattle.kinds.specs.declared.of_pairs.PairKind.{PairKind}
 use Rattle.terms.specs.declared.items.Compared.the-variants.{Headers, Records}
-use Rattle.terms.specs.Kinds.{requestKind, resultKind}
+use Rattle.kinds.specs.Pairs.{requestKind, resultKind}
 use Rattle.terms.specs.Items.{comparedOf}
 
 -- the data record of request i + 1 and of result j + 1

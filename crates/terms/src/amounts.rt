@@ -3,10 +3,10 @@ ghost use mathlib.Core.Path.{_≡_};
 ghost use Prim.Native.Nat.{_≤_, _<_};
 ghost use lib.ListN.{length};
 ghost use Rattle.terms.specs.Amounts.{baseOf, possible, partOfOne, debitTells, amountsTell};
-use crate::kinds::PairKind;
-use layout::answers::Answer;
+use answers::told::Answer;
+use kinds::of_files::Fixed;
+use kinds::of_pairs::PairKind;
 use layout::items;
-use tables::kinds::Fixed;
 use text::parts;
 
 // The least that a part payment may take, for types "1" to "6"; type "1" takes none.

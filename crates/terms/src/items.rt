@@ -2,13 +2,13 @@
 ghost use mathlib.Core.Path.{_≡_};
 ghost use Prim.Native.Nat.{_+_, _≤_, _<_};
 ghost use lib.ListN.{length, getD};
-ghost use Rattle.tables.specs.Kinds.{fixedOf};
+ghost use Rattle.kinds.specs.Kinds.{fixedOf};
 ghost use Rattle.tables.specs.Copied.{noItem};
-ghost use Rattle.terms.specs.Kinds.{requestKind};
+ghost use Rattle.kinds.specs.Pairs.{requestKind, agreed};
 ghost use Rattle.terms.specs.Items.{headerItems, comparedOf, agrees, itemsTell};
-use crate::kinds;
-use crate::kinds::PairKind;
-use layout::answers::Answer;
+use answers::told::Answer;
+use kinds::of_pairs;
+use kinds::of_pairs::PairKind;
 use tables::copied;
 use tables::copied::Copied;
 use text::parts;
@@ -26,6 +26,16 @@ const HEADER_ITEMS: [Copied; 4] = [
     Copied(7, 40, 16),
 ];
 
+// How many items of the two headers must agree.
+fn agreed(pair: PairKind) -> usize
+    ensures { λ r. ⌜ r ≡ agreed pair ⌝ }
+{
+    match pair {
+        PairKind::Enrolment => 2,
+        PairKind::Debit => 4,
+    }
+}
+
 fn header_item(i: usize) -> Copied
     requires { ⌜ i < 4 ⌝ }
     ensures { λ r. ⌜ r ≡ getD headerItems i noItem ⌝ }
@@ -38,8 +48,8 @@ fn compared_count(pair: PairKind, compared: Compared) -> usize
     ensures { λ r. ⌜ r ≡ length (comparedOf pair compared) ⌝ }
 {
     match compared {
-        Compared::Headers => kinds::agreed(pair),
-        Compared::Records => copied::copied_count(kinds::request_kind(pair)),
+        Compared::Headers => agreed(pair),
+        Compared::Records => copied::copied_count(of_pairs::request_kind(pair)),
     }
 }
 
@@ -50,7 +60,7 @@ fn compared_at(pair: PairKind, compared: Compared, i: usize) -> Copied
 {
     match compared {
         Compared::Headers => header_item(i),
-        Compared::Records => copied::copied_at(kinds::request_kind(pair), i),
+        Compared::Records => copied::copied_at(of_pairs::request_kind(pair), i),
     }
 }
 

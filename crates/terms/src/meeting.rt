@@ -2,17 +2,17 @@
 ghost use mathlib.Core.Path.{_≡_};
 ghost use Prim.Native.Nat.{_≤_};
 ghost use lib.ListN.{length};
-ghost use Rattle.tables.specs.Kinds.{fixedOf};
-ghost use Rattle.reader.specs.Records.{countOf};
-ghost use Rattle.terms.specs.Kinds.{requestKind, resultKind};
+ghost use Rattle.kinds.specs.Kinds.{fixedOf};
+ghost use Rattle.records.specs.Records.{countOf};
+ghost use Rattle.kinds.specs.Pairs.{requestKind, resultKind};
 ghost use Rattle.terms.specs.Meeting.{headersTell, meetsTell};
 use crate::amounts;
 use crate::items;
 use crate::items::Compared;
-use crate::kinds;
-use crate::kinds::PairKind;
-use layout::answers::Answer;
-use reader::records;
+use answers::told::Answer;
+use kinds::of_pairs;
+use kinds::of_pairs::PairKind;
+use records::listed;
 
 // The first item of the headers that differs, of those that must agree.
 pub fn headers_tell(pair: PairKind, request: &[u8], result: &[u8]) -> Answer
@@ -25,8 +25,8 @@ pub fn headers_tell(pair: PairKind, request: &[u8], result: &[u8]) -> Answer
         0,
         pair,
         Compared::Headers,
-        records::record_of(kinds::request_kind(pair), request, 0),
-        records::record_of(kinds::result_kind(pair), result, 0),
+        listed::record_of(of_pairs::request_kind(pair), request, 0),
+        listed::record_of(of_pairs::result_kind(pair), result, 0),
     )
 }
 

@@ -1,4 +1,2 @@
 -- Laws about the definitions of specs/.
 pub mod Classes
-pub mod Values
-pub mod Digits

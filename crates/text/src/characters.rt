@@ -12,7 +12,7 @@ enum Set {
 }
 
 // The byte is one from low to high.
-pub(crate) fn within(low: u8, high: u8, b: u8) -> bool
+pub fn within(low: u8, high: u8, b: u8) -> bool
     ensures { λ r. ⌜ r ≡ within low high b ⌝ }
 {
     low <= b && b <= high

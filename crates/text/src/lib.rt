@@ -1,5 +1,3 @@
-// Characters, numbers and dates on slices of bytes of every sort. Knows no record.
+// Characters and parts of slices of bytes of every sort. Knows no record.
 pub mod characters;
-pub mod dates;
-pub mod numbers;
 pub mod parts;

@@ -6,15 +6,15 @@ use mathlib.Core.Path.{_≡_, refl, ap, _∙_}
 use native.Mathlib.Omega.{arith}
 use lib.ListN.{length}
 use Rattle.laws.specs.Part.{part}
-use Rattle.tables.specs.declared.kinds.Kind.{Kind}
-use Rattle.tables.specs.declared.kinds.Named.the-variants.{Is}
-use Rattle.tables.specs.Kinds.{fixedOf, kindOf}
-use Rattle.layout.specs.declared.answers.Answer.{Answer}
-use Rattle.layout.specs.Answers.{accepted}
-use Rattle.reader.specs.Records.{recordAt, recordOf, dataOf}
+use Rattle.kinds.specs.declared.of_files.Kind.{Kind}
+use Rattle.kinds.specs.declared.of_files.Named.the-variants.{Is}
+use Rattle.kinds.specs.Kinds.{fixedOf, kindOf}
+use Rattle.answers.specs.declared.told.Answer.{Answer}
+use Rattle.answers.specs.Answers.{accepted}
+use Rattle.records.specs.Records.{recordAt, recordOf, dataOf}
 use Rattle.reader.specs.Reading.{readAs, readOf}
 use Rattle.reader.proofs.Accepted.{read-named}
-use Rattle.reader.proofs.Places.{record-inside}
+use Rattle.records.proofs.Places.{record-inside}
 use Rattle.walker.specs.declared.walking.Step.the-variants.{None, Record, End}
 use Rattle.walker.specs.Walks.{stepOf, walked, handOf, walkOf}
 use Rattle.walker.proofs.Steps.{step-record, step-end, hand-refused, hand-good}

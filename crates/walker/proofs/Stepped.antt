@@ -12,12 +12,12 @@ use native.Mathlib.Numerals.{add-one}
 use native.Mathlib.Omega.{arith}
 use denote.Ref.{RefT, now}
 use Rattle.laws.proofs.Bools.{either}
-use Rattle.tables.specs.declared.kinds.Kind.{Kind}
-use Rattle.tables.specs.declared.kinds.Named.the-variants.{Is}
-use Rattle.tables.specs.Kinds.{kindOf}
-use Rattle.layout.specs.Answers.{refuses}
-use Rattle.layout.proofs.Told.{refuses-zero, refuses-other}
-use Rattle.reader.specs.Records.{dataOf}
+use Rattle.kinds.specs.declared.of_files.Kind.{Kind}
+use Rattle.kinds.specs.declared.of_files.Named.the-variants.{Is}
+use Rattle.kinds.specs.Kinds.{kindOf}
+use Rattle.answers.specs.Answers.{refuses}
+use Rattle.answers.proofs.Refusals.{refuses-zero, refuses-other}
+use Rattle.records.specs.Records.{dataOf}
 use Rattle.reader.specs.Reading.{readOf}
 use Rattle.reader.proofs.Accepted.{read-known}
 use Rattle.walker.specs.declared.walking.Walked.{Walked}

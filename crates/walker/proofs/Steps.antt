@@ -4,11 +4,11 @@ use Prim.Native.Nat.{ℕ, _+_, _≤_, _<_}
 use mathlib.Core.List.{List}
 use mathlib.Core.Path.{_≡_}
 use borrow.Author.Tests.{lt-ltb, le-ltb}
-use Rattle.tables.specs.declared.kinds.Kind.{Kind}
-use Rattle.tables.specs.Kinds.{fixedOf, kindOf}
-use Rattle.layout.specs.declared.answers.Answer.{Answer}
-use Rattle.layout.proofs.Told.{refuses-not, refuses-is}
-use Rattle.reader.specs.Records.{dataOf}
+use Rattle.kinds.specs.declared.of_files.Kind.{Kind}
+use Rattle.kinds.specs.Kinds.{fixedOf, kindOf}
+use Rattle.answers.specs.declared.told.Answer.{Answer}
+use Rattle.answers.proofs.Refusals.{refuses-not, refuses-is}
+use Rattle.records.specs.Records.{dataOf}
 use Rattle.walker.specs.declared.walking.Step.the-variants.{None, End}
 use Rattle.walker.specs.Walks.{recordStep, stepIn, stepOf, stepNamed, walked, handOf}
 

@@ -3,13 +3,13 @@ use Prim.Native.Nat.{ℕ, _+_, _*_}
 use mathlib.Core.Bool.{cond}
 use mathlib.Core.List.{List, [], _∷_}
 use lib.Dec.{ltb}
-use Rattle.tables.specs.declared.kinds.Kind.{Kind}
-use Rattle.tables.specs.declared.kinds.Named.{Named}
-use Rattle.tables.specs.declared.kinds.Named.the-variants.{Is, Unknown}
-use Rattle.tables.specs.Kinds.{fixedOf, kindOf}
-use Rattle.layout.specs.declared.answers.Answer.{Answer}
-use Rattle.layout.specs.Answers.{refuses}
-use Rattle.reader.specs.Records.{dataOf}
+use Rattle.kinds.specs.declared.of_files.Kind.{Kind}
+use Rattle.kinds.specs.declared.of_files.Named.{Named}
+use Rattle.kinds.specs.declared.of_files.Named.the-variants.{Is, Unknown}
+use Rattle.kinds.specs.Kinds.{fixedOf, kindOf}
+use Rattle.answers.specs.declared.told.Answer.{Answer}
+use Rattle.answers.specs.Answers.{refuses}
+use Rattle.records.specs.Records.{dataOf}
 use Rattle.reader.specs.Reading.{readOf}
 use Rattle.walker.specs.declared.walking.Step.{Step}
 use Rattle.walker.specs.declared.walking.Step.the-variants.{None, Record, End}

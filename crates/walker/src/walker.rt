@@ -4,7 +4,7 @@ ghost use Rattle.walker.specs.Walks.{walkOf};
 ghost use Rattle.walker.specs.Walkers.{openOn, handedBy, movedOn};
 use crate::walking;
 use crate::walking::Walked;
-use layout::answers::Answer;
+use answers::told::Answer;
 use reader::reading;
 
 // The kind and the reader's answer are kept from the opening, so that a step does not read the file again.

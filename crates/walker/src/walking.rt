@@ -1,13 +1,13 @@
 // The walk on a plain slice and a place: record k + 1, or the end when k is n or more.
 ghost use mathlib.Core.Path.{_≡_};
 ghost use Rattle.walker.specs.Walks.{stepOf, handOf, walkOf, placeAfter};
-use layout::answers::Answer;
+use answers::told::Answer;
+use kinds::of_files;
+use kinds::of_files::Fixed;
+use kinds::of_files::Kind;
+use kinds::of_files::Named;
 use reader::reading;
-use reader::records;
-use tables::kinds;
-use tables::kinds::Fixed;
-use tables::kinds::Kind;
-use tables::kinds::Named;
+use records::listed;
 
 // What is handed out at a place.
 pub enum Step {
@@ -28,7 +28,7 @@ pub struct Walked {
 pub(crate) fn step_at(kind: Kind, file: &[u8], place: u64) -> Step
     ensures { λ r. ⌜ r ≡ stepOf kind (now (file .entry)) place ⌝ }
 {
-    if place < records::data_count(kind, file) as u64 {
+    if place < listed::data_count(kind, file) as u64 {
         let size = Fixed::of(kind).size as u64;
         let number = place + 1;
         return Step::Record(number, number * size, size);
@@ -46,7 +46,7 @@ pub(crate) fn hand(file: &[u8], place: u64, kind: u64, answer: Answer) -> Walked
             step: Step::None,
         };
     }
-    let named = kinds::kind_of(kind);
+    let named = of_files::kind_of(kind);
     match named {
         Named::Is(known) => {
             let handed = step_at(known, file, place);

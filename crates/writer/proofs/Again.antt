@@ -13,27 +13,27 @@ use lib.Seq.{ext-getD}
 use Rattle.laws.specs.Part.{part}
 use Rattle.laws.proofs.Bools.{either}
 use Rattle.laws.specs.Least.{least, further}
-use Rattle.text.specs.Numbers.{says}
+use Rattle.numbers.specs.Numbers.{says}
 use Rattle.laws.proofs.Every.{every}
 use Rattle.laws.proofs.Parts.{part-at, same-equal}
-use Rattle.tables.specs.declared.kinds.Kind.{Kind}
-use Rattle.tables.specs.declared.kinds.Kind.the-variants.{EB13, EB14, EB21, EB22}
-use Rattle.tables.specs.declared.kinds.Named.the-variants.{Is}
-use Rattle.tables.specs.declared.kinds.Role.the-variants.{Header, Data, Trailer}
+use Rattle.kinds.specs.declared.of_files.Kind.{Kind}
+use Rattle.kinds.specs.declared.of_files.Kind.the-variants.{EB13, EB14, EB21, EB22}
+use Rattle.kinds.specs.declared.of_files.Named.the-variants.{Is}
+use Rattle.kinds.specs.declared.of_files.Role.the-variants.{Header, Data, Trailer}
 use Rattle.tables.specs.declared.rows.Row.{Row}
-use Rattle.tables.specs.Kinds.{fixedOf}
+use Rattle.kinds.specs.Kinds.{fixedOf}
 use Rattle.tables.specs.Tables.{headerFront, enrolmentHeader, debitHeader, dataFront, enrolmentData, debitData, eb13Data, eb14Data, eb21Data, eb22Data, trailerFront, enrolmentTrailer, eb13Trailer, eb21Trailer, rowsOf}
 use Rattle.tables.specs.Totals.{noTotal, enrolmentTotals, eb21Totals, totalsOf}
 use Rattle.layout.specs.Items.{dateOf, nameDay}
 use Rattle.layout.specs.Rules.{meets, holds}
 use Rattle.layout.proofs.Judged.{All-hold}
 use Rattle.laws.specs.Tabulate.{tabulate}
-use Rattle.writer.specs.Records.{givenItem, headerFill, headerByte, headerBuilt, frontFill, dataByte, dataBuilt, totalIs, totalFor, trailerFill, trailerByte, trailerBuilt}
-use Rattle.writer.specs.Files.{requestOf}
+use Rattle.making.specs.Records.{givenItem, headerFill, headerByte, headerBuilt, frontFill, dataByte, dataBuilt, totalIs, totalFor, trailerFill, trailerByte, trailerBuilt}
+use Rattle.writer.specs.Writing.{requestOf}
 use Rattle.writer.specs.Apart.{headFrom}
 use Rattle.laws.proofs.Tabs.{tab-length, tab-at}
 use Rattle.writer.specs.Says.{Bytes}
-use Rattle.writer.proofs.Sizes.{body-size}
+use Rattle.making.proofs.Sizes.{body-size}
 use Rattle.writer.proofs.Requests.{not-request}
 use Rattle.writer.proofs.Held.{part-place, All, end, _also_, all-every, Back, back-at, given-back, only-back, same-back, says-back, total-back, word-back}
 

@@ -1,7 +1,7 @@
 -- The writer's answers: its own refusals are 1, 2, 3 and 8, and every other answer is the reader's on the file to be written.
 -- Assumes nothing.
-use Prim.Native.Nat.{ℕ, _+_, _*_, _≤_, _<_}
-use mathlib.Core.Bool.{Bool, true, false, cond, _||_}
+use Prim.Native.Nat.{ℕ, _+_, _*_, _≤_}
+use mathlib.Core.Bool.{true, false, cond}
 use mathlib.Core.List.{List}
 use mathlib.Core.Path.{_≡_, refl, sym, _∙_, ap}
 use mathlib.Core.Logic.{⊎-elim}
@@ -10,22 +10,23 @@ use borrow.Author.Tests.{leb-true, leb-false}
 use lib.Dec.{leb, eqb}
 use lib.ListN.{length, getD}
 use Rattle.laws.proofs.Bools.{either, clash}
-use Rattle.tables.specs.declared.kinds.Kind.{Kind}
+use Rattle.kinds.specs.declared.of_files.Kind.{Kind}
 use Rattle.tables.specs.declared.rows.Row.{Row}
-use Rattle.tables.specs.Kinds.{fixedOf, limit}
+use Rattle.kinds.specs.Kinds.{fixedOf, limit}
 use Rattle.tables.specs.Rows.{blank}
-use Rattle.layout.specs.declared.answers.Answer.{Answer}
-use Rattle.layout.specs.Answers.{refused}
+use Rattle.answers.specs.declared.told.Answer.{Answer}
+use Rattle.answers.specs.Answers.{refused}
 use Rattle.layout.specs.Judging.{brokenAt}
 use Rattle.reader.specs.Reading.{readAs}
 use Rattle.reader.specs.Meets.{Lengths, rowsAt}
 use Rattle.reader.specs.First.{Says}
 use Rattle.reader.proofs.Exact.{first-refusal}
 use Rattle.reader.proofs.Lengths.{good-length, length-short}
-use Rattle.writer.specs.Records.{Head, bodyCount}
-use Rattle.writer.specs.Files.{fileOf, writeAs}
+use Rattle.making.specs.Records.{Head, bodyCount}
+use Rattle.making.specs.Files.{fileOf}
+use Rattle.writer.specs.Writing.{writeAs}
 use Rattle.writer.specs.Says.{fitting, writersOwn, Tells}
-use Rattle.writer.proofs.Built.{file-length}
+use Rattle.making.proofs.Built.{file-length}
 use Rattle.writer.proofs.Taken.{file-count}
 
 -- a file to be written has a length that the reader takes

@@ -14,23 +14,22 @@ use Rattle.laws.proofs.Bools.{and-left, and-right}
 use Rattle.laws.proofs.Every.{every}
 use Rattle.laws.proofs.Parts.{part-length, part-at, same-equal}
 use Rattle.text.specs.Characters.{each, digits}
-use Rattle.text.specs.Numbers.{valueOf, says, digitsOf, wordOf}
+use Rattle.numbers.specs.Numbers.{valueOf, says, digitsOf, wordOf, letterOf}
 use Rattle.text.proofs.Classes.{within-low, within-high, each-at}
-use Rattle.text.proofs.Values.{digits-value}
+use Rattle.numbers.proofs.Values.{digits-value}
 use Rattle.reader.proofs.Accepted.{says-value}
-use Rattle.tables.specs.declared.kinds.Kind.{Kind}
-use Rattle.tables.specs.declared.kinds.Role.{Role}
+use Rattle.kinds.specs.declared.of_files.Kind.{Kind}
+use Rattle.kinds.specs.declared.of_files.Role.{Role}
 use Rattle.tables.specs.declared.rows.Row.{Row}
-use Rattle.tables.specs.Kinds.{fixedOf}
+use Rattle.kinds.specs.Kinds.{fixedOf}
 use Rattle.tables.specs.Rows.{blank}
 use Rattle.tables.specs.Tables.{rowsOf}
 use Rattle.tables.proofs.Tiling.{row-inside}
 use Rattle.layout.specs.Rules.{holds}
 use Rattle.layout.proofs.Judged.{All-hold}
-use Rattle.writer.specs.Bytes.{rowOver}
-use Rattle.text.specs.Numbers.{letterOf}
+use Rattle.making.specs.Bytes.{rowOver}
 use Rattle.writer.specs.Says.{Bytes}
-use Rattle.writer.proofs.Over.{row-over}
+use Rattle.making.proofs.Over.{row-over}
 
 -- a place of a part
 pub part-place : (s : List ℕ) (a m j : ℕ) → a ≤ j → j < a + m → getD (part a m s) (j - a) 0 ≡ getD s j 0

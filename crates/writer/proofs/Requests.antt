@@ -7,11 +7,11 @@ use mathlib.Core.Logic.{⊎-elim}
 use borrow.Author.Tests.{eqb-true}
 use lib.Dec.{eqb}
 use Rattle.laws.proofs.Bools.{either, clash}
-use Rattle.tables.specs.declared.kinds.Kind.{Kind}
-use Rattle.tables.specs.declared.kinds.Named.{Named}
-use Rattle.tables.specs.declared.kinds.Named.the-variants.{Is, Unknown}
-use Rattle.tables.specs.Kinds.{fixedOf, kindOf}
-use Rattle.writer.specs.Files.{requestOf}
+use Rattle.kinds.specs.declared.of_files.Kind.{Kind}
+use Rattle.kinds.specs.declared.of_files.Named.{Named}
+use Rattle.kinds.specs.declared.of_files.Named.the-variants.{Is, Unknown}
+use Rattle.kinds.specs.Kinds.{fixedOf, kindOf}
+use Rattle.writer.specs.Writing.{requestOf}
 
 pub not-request : {k : Kind} → Unknown ≡ Is k → ⊥
 not-request e = clash refl (ap known (sym e))

@@ -14,31 +14,35 @@ use Rattle.laws.specs.Sum.{sum}
 use Rattle.laws.proofs.Joins.{Sized, sized-length, sized-part, joined-same, joined-first, joined-more, parts-joined}
 use Rattle.laws.proofs.Parts.{part-length, part-at}
 use Rattle.laws.proofs.Sums.{sum-same}
-use Rattle.tables.specs.declared.kinds.Kind.{Kind}
-use Rattle.tables.specs.declared.kinds.Named.the-variants.{Is}
-use Rattle.tables.specs.declared.kinds.Role.the-variants.{Header, Data, Trailer}
+use Rattle.kinds.specs.declared.of_files.Kind.{Kind}
+use Rattle.kinds.specs.declared.of_files.Named.the-variants.{Is}
+use Rattle.kinds.specs.declared.of_files.Role.the-variants.{Header, Data, Trailer}
 use Rattle.tables.specs.declared.totals.Quantity.{Quantity}
-use Rattle.tables.specs.Kinds.{fixedOf, limit}
+use Rattle.kinds.specs.Kinds.{fixedOf, limit}
 use Rattle.tables.specs.Tables.{rowsOf}
 use Rattle.tables.specs.Totals.{noTotal, totalsOf}
 use Rattle.tables.proofs.Tiling.{size-least}
 use Rattle.layout.proofs.Judged.{All-hold}
-use Rattle.layout.specs.Answers.{accepted}
-use Rattle.reader.specs.Records.{recordAt, recordOf, countOf, dataOf, trailerOf, roleOf}
-use Rattle.reader.specs.Totals.{worth, worthAt, quantityOf, totalHolds}
+use Rattle.answers.specs.Answers.{accepted}
+use Rattle.records.specs.Records.{recordAt, recordOf, countOf, dataOf, trailerOf}
+use Rattle.reader.specs.Judged.{roleOf}
+use Rattle.records.specs.Quantities.{worth, worthAt, quantityOf}
+use Rattle.reader.specs.Totals.{totalHolds}
 use Rattle.reader.specs.Meets.{Lengths, Meets}
 use Rattle.reader.specs.Reading.{readOf}
-use Rattle.reader.proofs.Places.{record-inside}
+use Rattle.records.proofs.Places.{record-inside}
 use Rattle.reader.proofs.Cut.{record-length}
 use Rattle.reader.proofs.Exact.{read-exact, accepted-meets}
 use Rattle.reader.proofs.Accepted.{read-named}
-use Rattle.writer.specs.Records.{headerBuilt, bodyCount, dataBuilt, builtWorth, builtQuantity, builtTotal, builtTotals, trailerBuilt}
-use Rattle.writer.specs.Files.{frontOf, fileOf, requestOf, writeAs, afterAs, writeOf, roomAfter}
+use Rattle.making.specs.Records.{headerBuilt, bodyCount, dataBuilt, builtWorth, builtQuantity, builtTotal, builtTotals, trailerBuilt}
+use Rattle.making.specs.Files.{frontOf, fileOf}
+use Rattle.writer.specs.Writing.{requestOf, writeAs, afterAs, writeOf, roomAfter}
 use Rattle.writer.specs.Apart.{headIn, bodyAt, bodiesIn}
 use Rattle.writer.specs.Says.{Bytes}
-use Rattle.writer.proofs.Rows.{totals-few}
+use Rattle.making.proofs.Rows.{totals-few}
 use Rattle.laws.proofs.Tabs.{tab-at}
-use Rattle.writer.proofs.Sizes.{body-size, item6-inside, item7-inside}
+use Rattle.making.proofs.Sizes.{body-size}
+use Rattle.writer.proofs.Sizes.{item6-inside, item7-inside}
 use Rattle.writer.proofs.Taken.{Fits, each-fits}
 use Rattle.writer.proofs.Requests.{request-kind, request-name}
 use Rattle.writer.proofs.Again.{Said, header-again, data-again, trailer-again}

@@ -1,7 +1,7 @@
 -- A written file taken apart is what it was written from.
 -- Assumes nothing.
 use Prim.Native.Nat.{ℕ, _+_, _-_, _*_, _%_, _≤_, _<_}
-use mathlib.Core.Bool.{Bool, true, _&&_}
+use mathlib.Core.Bool.{true, _&&_}
 use mathlib.Core.List.{List, [], _∷_, _++_, append-assoc}
 use mathlib.Core.Path.{_≡_, refl, sym, _∙_, ap}
 use native.Mathlib.Nat.{le-of-eq, zero-mul, suc-mul, add-comm, mul-div-cancel, div-mul-le-self, div-add-mod', mul-mod-left}
@@ -17,26 +17,27 @@ use Rattle.laws.specs.Part.{part}
 use Rattle.laws.proofs.Bools.{and-left, and-right}
 use Rattle.laws.proofs.Joins.{joined-length, joined-part, joined-same, parts-joined, size-below}
 use Rattle.laws.proofs.Parts.{part-length, part-at}
-use Rattle.tables.specs.declared.kinds.Kind.{Kind}
-use Rattle.tables.specs.declared.kinds.Kind.the-variants.{EB13, EB14, EB21, EB22}
-use Rattle.tables.specs.declared.kinds.Role.the-variants.{Header}
+use Rattle.kinds.specs.declared.of_files.Kind.{Kind}
+use Rattle.kinds.specs.declared.of_files.Kind.the-variants.{EB13, EB14, EB21, EB22}
+use Rattle.kinds.specs.declared.of_files.Role.the-variants.{Header}
 use Rattle.tables.specs.declared.rows.Row.{Row}
-use Rattle.tables.specs.Kinds.{fixedOf}
+use Rattle.kinds.specs.Kinds.{fixedOf}
 use Rattle.tables.specs.Rows.{blank}
 use Rattle.tables.specs.Tables.{headerFront, enrolmentHeader, debitHeader, rowsOf}
-use Rattle.reader.specs.Records.{recordAt, recordOf, countOf, dataOf}
-use Rattle.reader.proofs.Places.{size-pos}
-use Rattle.writer.specs.Bytes.{fillBy}
-use Rattle.writer.specs.Records.{Head, givenItem, headerFill, headerByte, headerBuilt, bodyCount, dataByte, dataBuilt, builtTotals, trailerBuilt}
-use Rattle.writer.specs.Files.{frontOf, fileOf, partsFit, size6, size7}
+use Rattle.records.specs.Records.{recordAt, recordOf, countOf, dataOf}
+use Rattle.records.proofs.Places.{size-pos}
+use Rattle.making.specs.Bytes.{fillBy}
+use Rattle.making.specs.Records.{Head, givenItem, headerFill, headerByte, headerBuilt, bodyCount, dataByte, dataBuilt, builtTotals, trailerBuilt}
+use Rattle.making.specs.Files.{frontOf, fileOf}
+use Rattle.writer.specs.Writing.{partsFit, size6, size7}
 use Rattle.writer.specs.Apart.{headFrom, headIn, bodyAt, bodiesIn}
 use Rattle.writer.specs.Says.{fitting}
-use Rattle.writer.proofs.Lengths.{header-length, data-length}
+use Rattle.making.proofs.Lengths.{header-length, data-length}
 use Rattle.laws.proofs.Tabs.{tab-at}
-use Rattle.writer.proofs.Stores.{part-front, part-behind}
-use Rattle.writer.proofs.Built.{file-length}
-use Rattle.writer.proofs.Sizes.{body-size}
-use Rattle.writer.proofs.Over.{starts, endsPast, starts-over}
+use Rattle.making.proofs.Stores.{part-front, part-behind}
+use Rattle.making.proofs.Built.{file-length}
+use Rattle.making.proofs.Sizes.{body-size}
+use Rattle.making.proofs.Over.{starts, endsPast, starts-over}
 
 -- where a row of the header is given its item, the item stands there
 module _ (k : Kind) (h : Head) (i : ℕ) where

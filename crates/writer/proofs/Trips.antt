@@ -2,22 +2,23 @@
 -- Assumes nothing.
 use Prim.Native.Nat.{ℕ}
 use mathlib.Core.Bool.{true, false}
-use mathlib.Core.List.{List, _++_}
+use mathlib.Core.List.{List}
 use mathlib.Core.Path.{_≡_, refl, sym, _∙_, ap}
 use native.Mathlib.Omega.{arith}
 use borrow.Author.Tests.{eq-eqb}
-use lib.ListN.{length, drop}
+use lib.ListN.{length}
 use Rattle.laws.proofs.Bools.{clash}
-use Rattle.tables.specs.declared.kinds.Kind.{Kind}
-use Rattle.tables.specs.declared.kinds.Named.{Named}
-use Rattle.tables.specs.declared.kinds.Named.the-variants.{Is, Unknown}
-use Rattle.layout.specs.declared.answers.Answer.{Answer}
-use Rattle.layout.specs.Answers.{accepted}
-use Rattle.reader.specs.Reading.{readAs, readOf}
+use Rattle.kinds.specs.declared.of_files.Kind.{Kind}
+use Rattle.kinds.specs.declared.of_files.Named.{Named}
+use Rattle.kinds.specs.declared.of_files.Named.the-variants.{Is, Unknown}
+use Rattle.answers.specs.declared.told.Answer.{Answer}
+use Rattle.answers.specs.Answers.{accepted}
+use Rattle.reader.specs.Reading.{readAs}
 use Rattle.reader.proofs.Exact.{read-exact, accepted-meets}
 use Rattle.reader.proofs.Accepted.{read-named}
-use Rattle.writer.specs.Records.{Head}
-use Rattle.writer.specs.Files.{fileOf, requestOf, writeAs, afterAs, writeNamed, writeOf, afterNamed, roomAfter}
+use Rattle.making.specs.Records.{Head}
+use Rattle.making.specs.Files.{fileOf}
+use Rattle.writer.specs.Writing.{requestOf, writeAs, afterAs, writeNamed, writeOf, afterNamed, roomAfter}
 use Rattle.writer.specs.Apart.{headIn, bodiesIn}
 use Rattle.writer.specs.Says.{fitting, writersOwn, Tells, Wrote, Agrees}
 use Rattle.writer.proofs.Requests.{request-kind}

@@ -7,14 +7,15 @@ use mathlib.Core.Path.{_≡_, sym, _∙_, ap}
 use native.Mathlib.Omega.{arith}
 use borrow.Author.Tests.{le-leb, lt-leb, eq-eqb, ne-eqb}
 use lib.ListN.{length, drop}
-use Rattle.tables.specs.declared.kinds.Kind.{Kind}
-use Rattle.tables.specs.Kinds.{fixedOf, limit}
-use Rattle.layout.specs.declared.answers.Answer.{Answer}
-use Rattle.layout.specs.Answers.{refused}
+use Rattle.kinds.specs.declared.of_files.Kind.{Kind}
+use Rattle.kinds.specs.Kinds.{fixedOf, limit}
+use Rattle.answers.specs.declared.told.Answer.{Answer}
+use Rattle.answers.specs.Answers.{refused}
 use Rattle.reader.specs.Reading.{readAs}
-use Rattle.writer.specs.Records.{Head, bodyCount}
-use Rattle.writer.specs.Files.{fileOf, partsFit, size6, size7, writeAs, afterAs}
-use Rattle.writer.proofs.Built.{file-length}
+use Rattle.making.specs.Records.{Head, bodyCount}
+use Rattle.making.specs.Files.{fileOf}
+use Rattle.writer.specs.Writing.{partsFit, size6, size7, writeAs, afterAs}
+use Rattle.making.proofs.Built.{file-length}
 
 module _ (k : Kind) (h : Head) (bodies room : List ℕ) where
   -- a refusal leaves the room as it was; what is accepted stands at its front

@@ -3,12 +3,12 @@ use Prim.Native.Nat.{ℕ, _+_}
 use mathlib.Core.List.{List}
 use Rattle.laws.specs.Part.{part}
 use Rattle.laws.specs.Joined.{joined}
-use Rattle.tables.specs.declared.kinds.Kind.{Kind}
-use Rattle.tables.specs.Kinds.{fixedOf}
+use Rattle.kinds.specs.declared.of_files.Kind.{Kind}
+use Rattle.kinds.specs.Kinds.{fixedOf}
 use Rattle.layout.specs.Items.{dateOf}
-use Rattle.reader.specs.Records.{recordOf, dataOf}
-use Rattle.writer.specs.Records.{Head, headOf}
-use Rattle.writer.specs.Files.{size6, size7}
+use Rattle.records.specs.Records.{recordOf, dataOf}
+use Rattle.making.specs.Records.{Head, headOf}
+use Rattle.writer.specs.Writing.{size6, size7}
 
 -- what a header is written from, of a header: items 5, 3, 6 and 7
 abbrev pub headFrom : Kind → List ℕ → Head

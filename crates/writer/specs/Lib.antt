@@ -1,6 +1,4 @@
--- A request file made.
-pub mod Bytes
-pub mod Records
-pub mod Files
+-- A request file written, and taken apart.
+pub mod Writing
 pub mod Apart
 pub mod Says

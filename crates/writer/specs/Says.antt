@@ -5,14 +5,15 @@ use mathlib.Core.List.{List, _++_}
 use mathlib.Core.Path.{_≡_}
 use lib.Dec.{eqb}
 use lib.ListN.{length, getD, drop}
-use Rattle.tables.specs.declared.kinds.Kind.{Kind}
-use Rattle.tables.specs.declared.kinds.Named.the-variants.{Is}
-use Rattle.tables.specs.Kinds.{fixedOf, limit}
-use Rattle.layout.specs.declared.answers.Answer.{Answer}
-use Rattle.layout.specs.Answers.{accepted, refused}
+use Rattle.kinds.specs.declared.of_files.Kind.{Kind}
+use Rattle.kinds.specs.declared.of_files.Named.the-variants.{Is}
+use Rattle.kinds.specs.Kinds.{fixedOf, limit}
+use Rattle.answers.specs.declared.told.Answer.{Answer}
+use Rattle.answers.specs.Answers.{accepted, refused}
 use Rattle.reader.specs.Reading.{readAs, readOf}
-use Rattle.writer.specs.Records.{Head, bodyCount}
-use Rattle.writer.specs.Files.{fileOf, requestOf, partsFit, size6, size7, roomAfter}
+use Rattle.making.specs.Records.{Head, bodyCount}
+use Rattle.making.specs.Files.{fileOf}
+use Rattle.writer.specs.Writing.{requestOf, partsFit, size6, size7, roomAfter}
 use Rattle.writer.specs.Apart.{headIn, bodiesIn}
 
 -- every element is a byte

@@ -1,5 +1,2 @@
-// A request file made: one record at a time, decided before the first byte is stored.
-mod bytes;
-mod files;
-mod records;
+// A request file written: decided before the first byte is stored.
 pub mod writing;

@@ -2,19 +2,20 @@
 ghost use mathlib.Core.Path.{_≡_};
 ghost use Prim.Native.Nat.{_≤_, _<_};
 ghost use lib.ListN.{length};
-ghost use Rattle.tables.specs.Kinds.{limit};
+ghost use Rattle.kinds.specs.Kinds.{limit};
 ghost use Rattle.reader.specs.Reading.{readAs};
-ghost use Rattle.writer.specs.Records.{headOf, bodyCount};
-ghost use Rattle.writer.specs.Files.{fileOf, partsFit, size6, size7, writeAs, afterAs, writeOf, roomAfter};
-use crate::files;
-use layout::answers::Answer;
+ghost use Rattle.making.specs.Records.{headOf, bodyCount};
+ghost use Rattle.making.specs.Files.{fileOf};
+ghost use Rattle.writer.specs.Writing.{partsFit, size6, size7, writeAs, afterAs, writeOf, roomAfter};
+use answers::told::Answer;
+use kinds::of_files::Fixed;
+use kinds::of_files::Kind;
+use kinds::of_files::LIMIT;
+use making::files;
 use reader::reading;
-use tables::kinds;
-use tables::kinds::Fixed;
-use tables::kinds::Kind;
 
 // The longest file.
-const FRAME: usize = (kinds::LIMIT + 2) * Fixed::DEBIT_SIZE;
+const FRAME: usize = (LIMIT + 2) * Fixed::DEBIT_SIZE;
 
 // Every part is as long as its item, and the bodies are whole.
 fn parts_fit(
@@ -64,7 +65,7 @@ fn judge(
 {
     let mut frame = [0u8; FRAME];
     files::put(kind, date, code, item6, item7, bodies, n, &mut frame);
-    let whole = (n + 2) * files::size_of(kind);
+    let whole = (n + 2) * Fixed::size_of(kind);
     reading::read_as(kind, &frame[..whole])
 }
 
@@ -88,10 +89,10 @@ fn write_as(
     let body = Fixed::of(kind).body;
     if parts_fit(date, code, item6, item7, bodies, long6, long7, body) {
         let n = body_count(kind, bodies);
-        if kinds::LIMIT < n {
+        if LIMIT < n {
             return Answer::refused(3);
         }
-        if room.len() < (n + 2) * files::size_of(kind) {
+        if room.len() < (n + 2) * Fixed::size_of(kind) {
             return Answer::refused(8);
         }
         let answer = judge(kind, date, code, item6, item7, bodies, n);

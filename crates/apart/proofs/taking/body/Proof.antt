@@ -1,9 +1,9 @@
 -- What follows items 1 to 3 of the record.
 use borrow.Author.Needs.{needs}
 use native.Mathlib.Omega.{arith}
-use Rattle.reader.proofs.Places.{count-small}
+use Rattle.records.proofs.Places.{count-small}
 use Rattle.writer.specs.Apart.{bodyAt}
-use Rattle.writer.proofs.Sizes.{body-size}
+use Rattle.making.proofs.Sizes.{body-size}
 use Rattle.apart.proofs.taking.body.Statement.{statement}
 use Rattle.apart.proofs.taking.body.Tie as tie
 

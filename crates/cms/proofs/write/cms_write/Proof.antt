@@ -1,6 +1,6 @@
 -- The writer's answer, told.
 use borrow.Author.Needs.{needs}
-use mathlib.Core.Path.{_≡_, sym, _∙_, ap}
+use mathlib.Core.Path.{_∙_}
 use Rattle.cms.proofs.write.cms_write.Statement.{statement}
 use Rattle.cms.proofs.write.cms_write.Tie as tie
 

@@ -1,5 +1,5 @@
 -- All bodies together are far fewer bytes than a number can count.
-use Rattle.writer.proofs.Rows.{body-fits}
+use Rattle.making.proofs.Rows.{body-fits}
 use native.Mathlib.Omega.{arith}
 use borrow.Author.Needs.{needs}
 use Rattle.edges.proofs.again.same_again.Statement.{statement}

@@ -1,6 +1,6 @@
 -- Five digits say a number below 100,000.
-use Rattle.text.proofs.Values.{value-within}
-use Rattle.text.specs.Numbers.{valueOf}
+use Rattle.numbers.proofs.Values.{value-within}
+use Rattle.numbers.specs.Numbers.{valueOf}
 use borrow.Author.Needs.{needs}
 use Rattle.edges.proofs.values.number.Statement.{statement}
 use Rattle.edges.proofs.values.number.Tie as tie

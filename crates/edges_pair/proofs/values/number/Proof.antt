@@ -1,6 +1,6 @@
 -- Thirteen digits say a number below 10 ^ 13.
-use Rattle.text.proofs.Values.{value-within}
-use Rattle.text.specs.Numbers.{valueOf}
+use Rattle.numbers.proofs.Values.{value-within}
+use Rattle.numbers.specs.Numbers.{valueOf}
 use borrow.Author.Needs.{needs}
 use Rattle.edges_pair.proofs.values.number.Statement.{statement}
 use Rattle.edges_pair.proofs.values.number.Tie as tie

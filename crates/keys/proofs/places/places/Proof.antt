@@ -4,7 +4,7 @@ use Rattle.laws.proofs.Tabs.{tab-start, tab-more, tab-end}
 use Rattle.laws.specs.Tabulate.{tabulate}
 use Rattle.keys.proofs.Steps.{next-fits, index-fits}
 use Rattle.keys.specs.Keys.{placeFor, placesIn}
-use Rattle.tables.specs.Kinds.{limit}
+use Rattle.kinds.specs.Kinds.{limit}
 use lib.ListN.{length, take, length-set}
 use mathlib.Core.List.{[]}
 use mathlib.Core.Path.{_≡_, refl}

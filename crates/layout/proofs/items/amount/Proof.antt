@@ -1,6 +1,6 @@
 -- The amount's thirteen bytes, read.
-use Rattle.text.proofs.Values.{value-size}
-use Rattle.text.specs.Numbers.{valueOf}
+use Rattle.numbers.proofs.Values.{value-size}
+use Rattle.numbers.specs.Numbers.{valueOf}
 use borrow.Author.Needs.{needs}
 use mathlib.Core.Path.{ap, _∙_}
 use Rattle.layout.proofs.items.amount.Statement.{statement}

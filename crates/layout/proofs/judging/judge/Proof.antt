@@ -1,15 +1,13 @@
 -- The loop looks for the first row that does not hold.
-use Prim.Native.Nat.{_≤_, _-_, _+_}
+use Prim.Native.Nat.{_≤_, _-_}
 use Rattle.laws.proofs.Leasts.{least-start}
 use Rattle.layout.proofs.Judged.{row-good, laid-stop, laid-end}
-use Rattle.rows.proofs.Laying.{rows-fit, row-of}
-use Rattle.tables.specs.Rows.{blank}
-use Rattle.tables.proofs.Tiling.{row-inside, size-least}
-use Rattle.layout.proofs.Told.{So-far, told-more}
+use Rattle.rows.proofs.Laying.{laid-inside}
+use Rattle.rows.specs.Laid.{most}
+use Rattle.tables.proofs.Tiling.{size-least}
+use Rattle.answers.proofs.Refusals.{So-far, told-more}
 use Rattle.layout.specs.Judging.{rowTells}
-use Rattle.tables.specs.Kinds.{fixedOf}
 use borrow.Author.Needs.{needs}
-use lib.ListN.{getD}
 use mathlib.Core.Path.{sym}
 use native.Mathlib.Nat.{le-antisymm}
 use native.Mathlib.Omega.{arith}
@@ -17,13 +15,10 @@ use Rattle.layout.proofs.judging.judge.Statement.{statement}
 use Rattle.layout.proofs.judging.judge.Tie as tie
 
 abbrev Inv-loop : tie.InvT-loop
-Inv-loop kind rec header number count rows i₀ i = (i ≤ count) × So-far (rowTells kind rows rec header number) i
+Inv-loop kind rec header number rows i₀ i = (i ≤ most) × So-far (rowTells kind rows rec header number) i
 
 abbrev μ-loop : tie.MeasureT-loop
-μ-loop kind rec header number count rows i₀ i = count - i
-
-row-count-requires : tie.Need-row-count-requires Inv-loop μ-loop
-row-count-requires c κs = search needs
+μ-loop kind rec header number rows i₀ i = most - i
 
 rows-of-requires : tie.Need-rows-of-requires Inv-loop μ-loop
 rows-of-requires c κs = search needs
@@ -32,18 +27,16 @@ loop-holds : tie.Need-loop-holds Inv-loop μ-loop
 loop-holds c = (search needs, least-start _)
 
 mul-row : tie.Need-mul-row Inv-loop μ-loop
-mul-row c = let a = c .before .before .before .before .before .before .args in omega (arith, rows-fit (a .kind) (a .role))
+mul-row c = search needs
 
 array-copy-out-row : tie.Need-array-copy-out-row Inv-loop μ-loop
-array-copy-out-row c = let a = c .before .before .before .before .before .before .args in omega (arith, rows-fit (a .kind) (a .role))
+array-copy-out-row c = search needs
 
 holds-requires : tie.Need-holds-requires Inv-loop μ-loop
 holds-requires c κs =
-    let a = c .before .before .before .before .before .before .before .args in
-    let i = c .before .before .loop .i in
+    let a = c .before .before .before .before .before .before .args in
     let t = c .before .before .before .rows-of in
-    let inside : getD (t .result) i blank .1 + getD (t .result) i blank .2 ≤ fixedOf (a .kind) .size = rw (row-of (a .kind) (a .role) (t .result) (t .ensures) i (omega arith)) (row-inside (a .kind) (a .role) i (omega arith)) in
-    omega (arith, size-least (a .kind))
+    omega (arith, laid-inside (a .kind) (a .role) (t .result) (t .ensures) (c .before .before .loop .i), size-least (a .kind))
 
 add-i : tie.Need-add-i Inv-loop μ-loop
 add-i c = search needs
@@ -72,7 +65,7 @@ returns-2 : tie.Need-returns-2 Inv-loop μ-loop
 returns-2 c =
     let l = c .before .before .loop in
     let t = c .before .before .before .rows-of in
-    rw (c .accepted .ensures) (sym (laid-end _ _ (t .result) (t .ensures) _ _ _ (rw (← c .before .before .before .before .row-count .ensures, le-antisymm (c .before .loop-test .left) (l .inv .0)) (l .inv .1))))
+    rw (c .accepted .ensures) (sym (laid-end _ _ (t .result) (t .ensures) _ _ _ (rw (le-antisymm (c .before .loop-test .left) (l .inv .0)) (l .inv .1))))
 
 pub judge-spec : {M : Type 1} → statement M
 judge-spec =
@@ -80,7 +73,6 @@ judge-spec =
     (tie.spec
     Inv-loop
     μ-loop
-    row-count-requires
     rows-of-requires
     loop-holds
     mul-row

@@ -1,7 +1,6 @@
 -- Both tests.
 use Rattle.outcomes.specs.Outcomes.{asksFor}
 use borrow.Author.Tests.{le-leb, lt-leb}
-use borrow.Author.Needs.{needs}
 use Rattle.outcomes.proofs.asking.asks_for.Statement.{statement}
 use Rattle.outcomes.proofs.asking.asks_for.Tie as tie
 

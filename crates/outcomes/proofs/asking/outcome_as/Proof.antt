@@ -1,6 +1,6 @@
 -- The pair's answer, then whether there is such a request.
-use Rattle.layout.proofs.Told.{refuses-is, refuses-not}
-use Rattle.pair.proofs.Found.{result-of}
+use Rattle.answers.proofs.Refusals.{refuses-is, refuses-not}
+use Rattle.matching.proofs.Found.{result-of}
 use Rattle.outcomes.proofs.Outcome.{asks-for-is, asked-for}
 use Rattle.outcomes.specs.Outcomes.{outcomeAs}
 use Prim.Native.Nat.{_-_}

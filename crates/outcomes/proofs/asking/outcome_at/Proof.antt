@@ -1,6 +1,6 @@
 -- By whether the request has a result.
 use Rattle.outcomes.specs.Outcomes.{outcomeAt}
-use Rattle.pair.specs.Amounts.{takenAt, notTakenAt}
+use Rattle.matching.specs.Amounts.{takenAt, notTakenAt}
 use Rattle.tables.proofs.Tiling.{size-least}
 use borrow.Author.Tests.{lt-ltb, le-ltb}
 use native.Mathlib.Omega.{arith}

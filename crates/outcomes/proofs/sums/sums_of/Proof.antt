@@ -2,11 +2,11 @@
 use Prim.Native.Nat.{_≤_, _-_, _*_, _^_}
 use Rattle.laws.proofs.Sums.{sum-start, sum-more}
 use Rattle.laws.specs.Sum
-use Rattle.pair.proofs.Found.{left-of, results-length}
-use Rattle.pair.specs.Amounts.{askedAt, takenAt, notTakenAt}
-use Rattle.terms.specs.Kinds.{requestKind}
+use Rattle.matching.proofs.Found.{left-of, results-length}
+use Rattle.matching.specs.Amounts.{askedAt, takenAt, notTakenAt}
+use Rattle.kinds.specs.Pairs.{requestKind}
 use Rattle.outcomes.specs.Sums.{sumsOf}
-use Rattle.reader.specs.Records.{dataOf}
+use Rattle.records.specs.Records.{dataOf}
 use mathlib.Core.Path.{_≡_, sym, _∙_}
 use native.Mathlib.Nat.{le-antisymm}
 use native.Mathlib.Omega.{arith}

@@ -2,10 +2,10 @@
 use Prim.Native.Nat.{_≤_, _-_}
 use Rattle.laws.proofs.Tabs.{fill-start, fill-more}
 use Rattle.laws.specs.Tabulate.{tabulate}
-use Rattle.pair.proofs.Found.{left-of}
-use Rattle.pair.specs.Amounts.{takenAt, notTakenAt}
-use Rattle.terms.specs.Kinds.{requestKind}
-use Rattle.reader.specs.Records.{dataOf}
+use Rattle.matching.proofs.Found.{left-of}
+use Rattle.matching.specs.Amounts.{takenAt, notTakenAt}
+use Rattle.kinds.specs.Pairs.{requestKind}
+use Rattle.records.specs.Records.{dataOf}
 use lib.ListN.{length, drop, length-set}
 use mathlib.Core.List.{_++_}
 use mathlib.Core.Path.{_≡_, refl, _∙_}

@@ -1,7 +1,6 @@
 -- Both tests.
 use Rattle.pair.specs.Pairing.{listsFit}
 use borrow.Author.Tests.{le-leb, lt-leb}
-use borrow.Author.Needs.{needs}
 use Rattle.pair.proofs.pairing.lists_fit.Statement.{statement}
 use Rattle.pair.proofs.pairing.lists_fit.Tie as tie
 

@@ -1,5 +1,5 @@
 -- Decided first; only an accepted pair fills the lists.
-use Rattle.layout.specs.declared.answers.Answer.{Answer}
+use Rattle.answers.specs.declared.told.Answer.{Answer}
 use Rattle.pair.proofs.Matched.{pair-known}
 use Rattle.pair.proofs.Stages.{pair-fits, lent-fits, lent-told, list-filled, list-kept}
 use lib.ListN.{length}

@@ -1,6 +1,6 @@
 -- One stage after the other.
 use Rattle.pair.proofs.Stages.{read-number, by-request, by-result, by-headers, by-room, by-results}
-use Rattle.terms.specs.Kinds.{requestKind, resultKind}
+use Rattle.kinds.specs.Pairs.{requestKind, resultKind}
 use Rattle.reader.proofs.Exact.{accepted-meets}
 use mathlib.Core.Path.{sym, _∙_}
 use borrow.Author.Needs.{needs}

@@ -1,8 +1,8 @@
 -- By whether the result has a request.
 use Rattle.terms.proofs.Places.{same-size}
-use Rattle.terms.specs.Kinds.{resultKind}
+use Rattle.kinds.specs.Pairs.{resultKind}
 use Rattle.pair.specs.Results.{resultTells}
-use Rattle.reader.proofs.Places.{count-small}
+use Rattle.records.proofs.Places.{count-small}
 use borrow.Author.Tests.{lt-ltb, le-ltb}
 use mathlib.Core.Path.{_∙_}
 use native.Mathlib.Omega.{arith}

@@ -1,11 +1,11 @@
 -- The loop looks for the first result that cannot stand.
 use Prim.Native.Nat.{_≤_, _-_}
 use Rattle.laws.proofs.Leasts.{least-start}
-use Rattle.layout.proofs.Told.{So-far, told-more, told-stop, told-end}
-use Rattle.terms.specs.Kinds.{resultKind}
-use Rattle.pair.proofs.Found.{request-of, requests-length}
+use Rattle.answers.proofs.Refusals.{So-far, told-more, told-stop, told-end}
+use Rattle.kinds.specs.Pairs.{resultKind}
+use Rattle.matching.proofs.Found.{request-of, requests-length}
 use Rattle.pair.specs.Results.{resultTells, resultsTell}
-use Rattle.reader.specs.Records.{dataOf}
+use Rattle.records.specs.Records.{dataOf}
 use mathlib.Core.Path.{_≡_, sym}
 use native.Mathlib.Nat.{le-antisymm}
 use native.Mathlib.Omega.{arith}

@@ -1,11 +1,11 @@
 -- One line after the other.
 use Prim.Native.Nat.{_≤_, _-_, _+_, _*_}
 use Rattle.laws.specs.Joined.{joined}
-use Rattle.pair.proofs.Found.{result-of, results-length}
+use Rattle.matching.proofs.Found.{result-of, results-length}
 use Rattle.posting.proofs.Following.{Put, put, joined-none, joined-next}
 use Rattle.posting.specs.Lines.{requestLine}
 use Rattle.posting.specs.Posting.{lineAt}
-use Rattle.terms.specs.declared.kinds.PairKind.the-variants.{Debit}
+use Rattle.kinds.specs.declared.of_pairs.PairKind.the-variants.{Debit}
 use lib.ListN.{length}
 use mathlib.Core.Path.{_≡_, refl, _∙_}
 use native.Mathlib.Nat.{le-antisymm}

@@ -1,7 +1,7 @@
 -- By whether the code is blank.
 use Rattle.laws.specs.Tabulate.{tabulate}
 use Rattle.posting.specs.Lines.{codeLine}
-use Rattle.text.specs.Numbers.{letterOf}
+use Rattle.numbers.specs.Numbers.{letterOf}
 use borrow.Author.Tests.{eq-eqb, ne-eqb}
 use borrow.Author.Needs.{needs}
 use Rattle.posting.proofs.puts.code_line.Statement.{statement}

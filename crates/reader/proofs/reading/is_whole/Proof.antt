@@ -1,5 +1,5 @@
 -- The two tests, in their order.
-use Rattle.reader.proofs.Places.{size-pos}
+use Rattle.records.proofs.Places.{size-pos}
 use Rattle.reader.specs.Reading.{isWhole}
 use borrow.Author.Needs.{needs}
 use borrow.Author.Tests.{eq-eqb, ne-eqb}

@@ -1,9 +1,9 @@
 -- One stage after the other.
-use Rattle.layout.proofs.Told.{then-first, then-second}
+use Rattle.answers.proofs.Refusals.{then-first, then-second}
 use Rattle.reader.proofs.Lengths.{length-good}
 use Rattle.reader.specs.Keys.{keysTell}
 use Rattle.reader.specs.Reading.{lengthTells, readAs}
-use Rattle.reader.specs.Records.{recordsTell}
+use Rattle.reader.specs.Judged.{recordsTell}
 use Rattle.reader.specs.Totals.{totalsTell}
 use borrow.Author.Needs.{needs}
 use mathlib.Core.Path.{sym, _∙_}

@@ -1,5 +1,6 @@
 -- By whether there is a repeated key.
-use Rattle.reader.proofs.Places.{record-inside, key-inside, keys-by, key-fits}
+use Rattle.records.proofs.Places.{record-inside}
+use Rattle.reader.proofs.Places.{key-inside, keys-by, key-fits}
 use Rattle.reader.specs.Keys.{repeatTold}
 use borrow.Author.Needs.{needs}
 use borrow.Author.Tests.{lt-ltb, le-ltb}

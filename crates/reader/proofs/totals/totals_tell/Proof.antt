@@ -1,7 +1,7 @@
 -- The loop looks for the first total that is not what the records give.
 use Prim.Native.Nat.{_≤_, _-_}
 use Rattle.laws.proofs.Leasts.{least-start}
-use Rattle.layout.proofs.Told.{So-far, told-more, told-stop, told-end}
+use Rattle.answers.proofs.Refusals.{So-far, told-more, told-stop, told-end}
 use Rattle.tables.specs.Totals.{totalsOf}
 use Rattle.reader.specs.Totals.{totalTells, totalsTell}
 use borrow.Author.Needs.{needs}

@@ -1,7 +1,6 @@
 -- Both tests.
 use Rattle.terms.specs.Amounts.{partOfOne}
 use borrow.Author.Tests.{eq-eqb, ne-eqb}
-use borrow.Author.Needs.{needs}
 use Rattle.terms.proofs.amounts.part_of_one.Statement.{statement}
 use Rattle.terms.proofs.amounts.part_of_one.Tie as tie
 

@@ -1,7 +1,7 @@
 -- The loop looks for the first item that differs.
 use Prim.Native.Nat.{_≤_, _-_}
 use Rattle.laws.proofs.Leasts.{least-start}
-use Rattle.layout.proofs.Told.{So-far, told-end}
+use Rattle.answers.proofs.Refusals.{So-far, told-end}
 use Rattle.terms.proofs.Places.{compared-inside}
 use Rattle.terms.proofs.Differ.{items-more, items-stop}
 use Rattle.terms.specs.Items.{comparedOf, itemTells, itemsTell}

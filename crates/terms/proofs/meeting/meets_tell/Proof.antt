@@ -1,12 +1,11 @@
 -- Copied items, then amounts.
-use Rattle.layout.proofs.Told.{then-first, then-second}
+use Rattle.answers.proofs.Refusals.{then-first, then-second}
 use Rattle.terms.specs.Items.{itemsTell}
-use Rattle.terms.specs.Kinds.{requestKind}
+use Rattle.kinds.specs.Pairs.{requestKind}
 use Rattle.terms.specs.Meeting.{meetsTell}
 use Rattle.tables.proofs.Tiling.{size-least}
 use mathlib.Core.Path.{sym}
 use native.Mathlib.Omega.{arith}
-use borrow.Author.Needs.{needs}
 use Rattle.terms.proofs.meeting.meets_tell.Statement.{statement}
 use Rattle.terms.proofs.meeting.meets_tell.Tie as tie
 

@@ -43,8 +43,8 @@ use denote.Triple.Spec.{Meets, tripleOf}
 use denote.Triple.Table.{entered, cited}
 use denote.Triple.Walked.{says, Stays, stay-ref, walkOf, goes-ref, Walks, ends-at, walked, walk-meets}
 use denote.Triple.Clauses.{ensured, lasts}
-use Rattle.layout.proofs.answers.Answer as N
-use Rattle.layout.proofs.answers.Answer.Laws as N′
+use Rattle.answers.proofs.told.Answer as N
+use Rattle.answers.proofs.told.Answer.Laws as N′
 use Rattle.walker.specs.declared.walking.Walked.{Walked}
 use Rattle.walker.specs.declared.walker.Walker.{Walker}
 use Rattle.walker.specs.Walks.{placeAfter}

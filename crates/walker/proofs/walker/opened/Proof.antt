@@ -40,9 +40,9 @@ use denote.Triple.Table.{entered, cited}
 use denote.Triple.Walked.{says, Stays, stay-none, stay-none-slice, walkOf, goes-none, goes-none-slice, Walks, ends-at, walked, walk-meets}
 use denote.Exit.{yes}
 use denote.Triple.Clauses.{ensured, lasts}
-use Rattle.layout.specs.declared.answers.Answer.{Answer}
-use Rattle.layout.proofs.answers.Answer as N
-use Rattle.layout.proofs.answers.Answer.Laws as N′
+use Rattle.answers.specs.declared.told.Answer.{Answer}
+use Rattle.answers.proofs.told.Answer as N
+use Rattle.answers.proofs.told.Answer.Laws as N′
 use Rattle.reader.specs.Reading.{readOf}
 use Rattle.reader.proofs.reading.read as read
 use Rattle.reader.proofs.reading.read.Symbol as read-def

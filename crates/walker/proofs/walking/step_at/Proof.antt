@@ -1,5 +1,5 @@
 -- By whether the place is below n.
-use Rattle.reader.proofs.Places.{record-inside}
+use Rattle.records.proofs.Places.{record-inside}
 use Rattle.walker.proofs.Steps.{step-record, step-end}
 use mathlib.Core.Path.{sym}
 use native.Mathlib.Omega.{arith}

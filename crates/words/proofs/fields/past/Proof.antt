@@ -1,6 +1,6 @@
 -- One more than what stands before, where a b is there.
 use Rattle.words.proofs.Marks.{past-one, past-all}
-use mathlib.Core.Path.{sym, _∙_}
+use mathlib.Core.Path.{sym}
 use borrow.Author.Needs.{needs}
 use Rattle.words.proofs.fields.past.Statement.{statement}
 use Rattle.words.proofs.fields.past.Tie as tie

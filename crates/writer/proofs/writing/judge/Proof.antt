@@ -1,10 +1,10 @@
 -- The file in the frame, read.
 use Prim.Native.Nat.{_+_, _*_, _≤_}
 use Rattle.reader.specs.Reading.{readAs}
-use Rattle.tables.specs.Kinds.{fixedOf}
-use Rattle.writer.proofs.Built.{file-front}
-use Rattle.writer.proofs.Sizes.{frame-fits}
-use Rattle.writer.specs.Records.{headOf}
+use Rattle.kinds.specs.Kinds.{fixedOf}
+use Rattle.making.proofs.Built.{file-front}
+use Rattle.making.proofs.Sizes.{frame-fits}
+use Rattle.making.specs.Records.{headOf}
 use lib.ListN.{length}
 use lib.Seq.{length-take-le}
 use mathlib.Core.Path.{sym, _∙_, ap}

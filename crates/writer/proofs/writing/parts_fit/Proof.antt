@@ -1,5 +1,5 @@
 -- The five tests, in their order.
-use Rattle.writer.specs.Files.{partsFit}
+use Rattle.writer.specs.Writing.{partsFit}
 use borrow.Author.Needs.{needs}
 use borrow.Author.Tests.{eq-eqb, ne-eqb}
 use Rattle.writer.proofs.writing.parts_fit.Statement.{statement}

@@ -1,5 +1,5 @@
 -- The kind first.
-use Rattle.writer.specs.Files.{requestOf, writeOf, roomAfter}
+use Rattle.writer.specs.Writing.{requestOf, writeOf, roomAfter}
 use borrow.Author.Tests.{eq-eqb, ne-eqb}
 use mathlib.Core.Path.{refl}
 use borrow.Author.Needs.{needs}

@@ -1,0 +1,2 @@
+-- What the treasurer is told.
+pub mod Answers

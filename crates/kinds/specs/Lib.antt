@@ -1,0 +1,3 @@
+-- The kinds of files and of pairs.
+pub mod Kinds
+pub mod Pairs

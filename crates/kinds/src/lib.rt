@@ -1,0 +1,3 @@
+// The kinds of files and of pairs, each with its own fixed numbers.
+pub mod of_files;
+pub mod of_pairs;

@@ -1,0 +1,48 @@
+-- The row over the place says what stands there.
+use Rattle.making.specs.Records.{headerFill, headerByte}
+use borrow.Author.Needs.{needs}
+use native.Mathlib.Omega.{arith}
+use Rattle.making.proofs.building.header_byte.Statement.{statement}
+use Rattle.making.proofs.building.header_byte.Tie as tie
+
+row-over-requires : tie.Need-row-over-requires
+row-over-requires c κs = search needs
+
+past-requires : tie.Need-past-requires
+past-requires c κs = search needs
+
+given-byte-requires : tie.Need-given-byte-requires
+given-byte-requires c κs = omega (arith, c .past .ensures)
+
+of-requires : tie.Need-of-requires
+of-requires c κs = search needs
+
+letter-requires : tie.Need-letter-requires
+letter-requires c κs = search needs
+
+fill-requires : tie.Need-fill-requires
+fill-requires c κs = search needs
+
+returns : tie.Need-returns
+unfolding headerByte headerFill
+returns c =
+    let g = c .before .before .before in
+    rw (
+      ← g .before .before .row-over .ensures .0,
+      ← g .before .past .ensures,
+      ← g .given-byte .ensures,
+      ← c .before .before .of .ensures,
+      ← c .before .letter .ensures,
+    ) (c .fill .ensures)
+
+pub header-byte-spec : {M : Type 1} → statement M
+header-byte-spec =
+    tie.close
+    (tie.spec
+    row-over-requires
+    past-requires
+    given-byte-requires
+    of-requires
+    letter-requires
+    fill-requires
+    returns)

@@ -1,0 +1,4 @@
+-- The file to be written.
+pub mod Bytes
+pub mod Records
+pub mod Files

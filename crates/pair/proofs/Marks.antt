@@ -1,0 +1,85 @@
+-- The marks and amounts of the results of an accepted file.
+-- Assumes nothing.
+use Prim.Native.Nat.{ℕ, _+_, _<_, zero-le}
+use mathlib.Core.Bool.{true, not, _||_}
+use mathlib.Core.List.{List}
+use mathlib.Core.Path.{_≡_, sym, _∙_}
+use mathlib.Core.Logic.{_⊎_, inl, inr, ⊎-elim}
+use native.Mathlib.Nat.{add-zero, eq-or-lt-of-le}
+use native.Mathlib.Omega.{arith}
+use borrow.Author.Tests.{eqb-true, not-true}
+use lib.Dec.{eqb}
+use lib.ListN.{getD, drop}
+use Rattle.laws.specs.Part.{part}
+use Rattle.laws.proofs.Bools.{and-left, or-cases, clash}
+use Rattle.laws.proofs.Parts.{part-at}
+use Rattle.text.specs.Characters.{digits, zeros}
+use Rattle.numbers.specs.Numbers.{wordOf}
+use Rattle.numbers.proofs.Values.{zeros-if}
+use Rattle.kinds.specs.declared.of_files.Kind.the-variants.{EB14, EB22}
+use Rattle.tables.specs.Codes.{isTableCode}
+use Rattle.tables.specs.Tables.{dataFront, enrolmentData, debitData, eb14Data, eb22Data}
+use Rattle.layout.specs.Items.{amountOf, markOf}
+use Rattle.layout.specs.Rules.{failed, partly, meets, holds}
+use Rattle.records.specs.Records.{recordOf, dataOf}
+use Rattle.reader.specs.Meets.{Meets}
+use Rattle.reader.proofs.Accepted.{data-row}
+use Rattle.kinds.specs.declared.of_pairs.PairKind.{PairKind}
+use Rattle.kinds.specs.declared.of_pairs.PairKind.the-variants.{Enrolment, Debit}
+use Rattle.kinds.specs.Pairs.{resultKind}
+use Rattle.terms.specs.Marks.{markIn}
+use Rattle.terms.specs.Same.{resultAt}
+
+-- the mark of a result's item is its first byte
+first-byte : (start : ℕ) (rec : List ℕ) → getD (part start 5 rec) 0 0 ≡ getD rec start 0
+first-byte start rec = part-at start 5 rec 0 (omega arith) ∙ rw add-zero
+
+mark-failed : (start : ℕ) (rec : List ℕ) → failed (part start 5 rec) ≡ true → getD rec start 0 ≡ 0x4E
+unfolding failed
+mark-failed start rec t = sym (first-byte start rec) ∙ eqb-true (getD (part start 5 rec) 0 0) 0x4E (and-left _ (isTableCode (wordOf (drop 1 (part start 5 rec)))) t)
+
+mark-partly : (start : ℕ) (rec : List ℕ) → partly (part start 5 rec) ≡ true → getD rec start 0 ≡ 0x50
+unfolding partly
+mark-partly start rec t =
+    sym (first-byte start rec) ∙
+    eqb-true (getD (part start 5 rec) 0 0) 0x50
+    (and-left _ (isTableCode (wordOf (drop 1 (part start 5 rec))) || eqb (wordOf (drop 1 (part start 5 rec))) 0x20202020) t)
+
+-- a mark is "N" or "P"
+abbrev pub Marked : ℕ → Type 0
+Marked mark = (mark ≡ 0x4E) ⊎ (mark ≡ 0x50)
+
+-- that of an enrolment result is "N"
+enrolment-mark : (r : List ℕ) → Meets EB14 r → (j : ℕ) → j < dataOf EB14 r → getD (recordOf EB14 r (j + 1)) 91 0 ≡ 0x4E
+unfolding holds meets dataFront enrolmentData eb14Data
+enrolment-mark r m j h = mark-failed 91 (recordOf EB14 r (j + 1)) (data-row EB14 r m j h 11 (omega arith))
+
+-- that of a debit result is either
+pub debit-mark : (r : List ℕ) → Meets EB22 r → (j : ℕ) → j < dataOf EB22 r → Marked (markOf (recordOf EB22 r (j + 1)))
+unfolding holds meets dataFront debitData eb22Data
+debit-mark r m j h =
+    ⊎-elim (λ t. inl (mark-failed 68 (recordOf EB22 r (j + 1)) t)) (λ t. inr (mark-partly 68 (recordOf EB22 r (j + 1)) t))
+    (or-cases (failed (part 68 5 (recordOf EB22 r (j + 1)))) (partly (part 68 5 (recordOf EB22 r (j + 1)))) (data-row EB22 r m j h 8 (omega arith)))
+
+-- the same of both pair kinds
+pub result-mark : (p : PairKind) (r : List ℕ) → Meets (resultKind p) r → (j : ℕ) → j < dataOf (resultKind p) r → Marked (markIn p (resultAt p r j))
+unfolding markIn
+result-mark Enrolment r m j h = inl (enrolment-mark r m j h)
+result-mark Debit r m j h = debit-mark r m j h
+
+-- the amount of a debit result is not zero
+pub debit-amount : (r : List ℕ) → Meets EB22 r → (j : ℕ) → j < dataOf EB22 r → 0 < amountOf (recordOf EB22 r (j + 1))
+unfolding holds meets digits dataFront debitData eb22Data
+debit-amount r m j h = ⊎-elim none (λ l. l) (eq-or-lt-of-le zero-le)
+  where
+    item : List ℕ
+    item = part 42 13 (recordOf EB22 r (j + 1))
+
+    all-digits : digits item ≡ true
+    all-digits = data-row EB22 r m j h 5 (omega arith)
+
+    some-other : not (zeros item) ≡ true
+    some-other = data-row EB22 r m j h 6 (omega arith)
+
+    none : 0 ≡ amountOf (recordOf EB22 r (j + 1)) → 0 < amountOf (recordOf EB22 r (j + 1))
+    none e = absurd (clash (zeros-if item all-digits (sym e)) (not-true (zeros item) some-other))

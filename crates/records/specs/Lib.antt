@@ -1,0 +1,3 @@
+-- The records of one file.
+pub mod Records
+pub mod Quantities

@@ -1,0 +1,3 @@
+// The records of one file by their place, and what its data records add up to.
+pub mod listed;
+pub mod quantities;

@@ -1,0 +1,345 @@
+// The rows of every record of every kind. A code is its four bytes as one number; "0000" where breaking the rule is refusal 5.
+ghost use mathlib.Core.Path.{_≡_};
+ghost use Rattle.tables.specs.Tables.{enrolmentHeader, debitHeader, eb13Data, eb14Data, eb21Data, eb22Data, eb13Trailer, eb14Trailer, eb21Trailer, eb22Trailer, rowsOf};
+ghost use Rattle.rows.specs.Laid.{laidOut};
+use kinds::of_files::Kind;
+use kinds::of_files::Role;
+use tables::rows::Class;
+use tables::rows::Row;
+
+// The most rows that a record has; shorter tables end in blank rows.
+pub const MOST: usize = 17;
+
+const BLANK: Row = Row(0, 0, 0, Class::Each(0, 0), 0);
+
+const MARK_H: Class = Class::Each(b'H', b'H');
+
+const MARK_R: Class = Class::Each(b'R', b'R');
+
+const MARK_T: Class = Class::Each(b'T', b'T');
+
+const NINES: Class = Class::Each(b'9', b'9');
+
+const ZEROS: Class = Class::Each(b'0', b'0');
+
+const SPACES: Class = Class::Each(b' ', b' ');
+
+const DIGITS: Class = Class::Each(b'0', b'9');
+
+const TYPES: Class = Class::Each(b'0', b'6');
+
+const FREE: Class = Class::Each(0x20, 0x7E);
+
+const PASSBOOK: Class = Class::Each(0x20, 0xFF);
+
+const C0000: u64 = 0x3030_3030;
+
+const C0011: u64 = 0x3030_3131;
+
+const C0061: u64 = 0x3030_3631;
+
+const C0068: u64 = 0x3030_3638;
+
+const C0075: u64 = 0x3030_3735;
+
+const C0081: u64 = 0x3030_3831;
+
+const C0088: u64 = 0x3030_3838;
+
+const C0089: u64 = 0x3030_3839;
+
+const C0090: u64 = 0x3030_3930;
+
+const C0098: u64 = 0x3030_3938;
+
+const C9998: u64 = 0x3939_3938;
+
+const CA011: u64 = 0x4130_3131;
+
+const CA012: u64 = 0x4130_3132;
+
+const ENROLMENT_HEADER: [Row; MOST] = [
+    Row(1, 0, 1, MARK_H, C0081),
+    Row(2, 1, 8, ZEROS, C0081),
+    Row(3, 9, 10, Class::Institution, C0088),
+    Row(4, 19, 4, Class::KindName, C0000),
+    Row(4, 23, 4, DIGITS, C0088),
+    Row(5, 27, 6, DIGITS, C0088),
+    Row(5, 27, 6, Class::Date, C9998),
+    Row(5, 27, 6, Class::NameDate, C0000),
+    Row(6, 33, 87, SPACES, C0089),
+    BLANK,
+    BLANK,
+    BLANK,
+    BLANK,
+    BLANK,
+    BLANK,
+    BLANK,
+    BLANK,
+];
+
+const DEBIT_HEADER: [Row; MOST] = [
+    Row(1, 0, 1, MARK_H, C0081),
+    Row(2, 1, 8, ZEROS, C0081),
+    Row(3, 9, 10, Class::Institution, C0088),
+    Row(4, 19, 4, Class::KindName, C0000),
+    Row(4, 23, 4, DIGITS, C0088),
+    Row(5, 27, 6, DIGITS, C0088),
+    Row(5, 27, 6, Class::Date, C9998),
+    Row(5, 27, 6, Class::NameDate, C0000),
+    Row(6, 33, 7, DIGITS, C0011),
+    Row(7, 40, 16, Class::Filled, C0098),
+    Row(8, 56, 94, SPACES, C0089),
+    BLANK,
+    BLANK,
+    BLANK,
+    BLANK,
+    BLANK,
+    BLANK,
+];
+
+const EB13_DATA: [Row; MOST] = [
+    Row(1, 0, 1, MARK_R, C0081),
+    Row(2, 1, 8, Class::Serial, C0081),
+    Row(3, 9, 10, Class::AsHeader, C0000),
+    Row(4, 19, 6, Class::NotLater, CA011),
+    Row(5, 25, 1, Class::Application, CA012),
+    Row(6, 26, 20, Class::Filled, C0098),
+    Row(7, 46, 7, DIGITS, C0011),
+    Row(8, 53, 16, Class::Filled, C0098),
+    Row(9, 69, 16, Class::Owner, C0098),
+    Row(10, 85, 4, SPACES, C0089),
+    Row(11, 89, 2, Class::CodeText, C0098),
+    Row(12, 91, 5, SPACES, C0089),
+    Row(13, 96, 1, SPACES, C0089),
+    Row(14, 97, 12, FREE, C0088),
+    Row(15, 109, 1, SPACES, C0089),
+    Row(16, 110, 10, SPACES, C0089),
+    BLANK,
+];
+
+const EB14_DATA: [Row; MOST] = [
+    Row(1, 0, 1, MARK_R, C0081),
+    Row(2, 1, 8, Class::Serial, C0081),
+    Row(3, 9, 10, Class::AsHeader, C0000),
+    Row(4, 19, 6, Class::NotLater, CA011),
+    Row(5, 25, 1, Class::Application, CA012),
+    Row(6, 26, 20, Class::Filled, C0098),
+    Row(7, 46, 7, DIGITS, C0011),
+    Row(8, 53, 16, Class::Filled, C0098),
+    Row(9, 69, 16, Class::Owner, C0098),
+    Row(10, 85, 4, SPACES, C0089),
+    Row(11, 89, 2, Class::CodeText, C0098),
+    Row(12, 91, 5, Class::Failed, C0088),
+    Row(13, 96, 1, SPACES, C0089),
+    Row(14, 97, 12, FREE, C0088),
+    Row(15, 109, 1, SPACES, C0089),
+    Row(16, 110, 10, SPACES, C0089),
+    BLANK,
+];
+
+const EB21_DATA: [Row; MOST] = [
+    Row(1, 0, 1, MARK_R, C0081),
+    Row(2, 1, 8, Class::Serial, C0081),
+    Row(3, 9, 10, Class::AsHeader, C0000),
+    Row(4, 19, 7, DIGITS, C0011),
+    Row(5, 26, 16, Class::Filled, C0098),
+    Row(6, 42, 13, DIGITS, C0088),
+    Row(6, 42, 13, Class::NotZero, C0061),
+    Row(7, 55, 13, Class::CodeText, C0098),
+    Row(8, 68, 5, SPACES, C0089),
+    Row(9, 73, 16, PASSBOOK, C0068),
+    Row(10, 89, 2, Class::CodeText, C0098),
+    Row(11, 91, 20, Class::Filled, C0098),
+    Row(12, 111, 5, FREE, C0088),
+    Row(13, 116, 1, TYPES, C0075),
+    Row(13, 116, 1, Class::Least, C0075),
+    Row(14, 117, 12, FREE, C0088),
+    Row(15, 129, 21, SPACES, C0089),
+];
+
+const EB22_DATA: [Row; MOST] = [
+    Row(1, 0, 1, MARK_R, C0081),
+    Row(2, 1, 8, Class::Serial, C0081),
+    Row(3, 9, 10, Class::AsHeader, C0000),
+    Row(4, 19, 7, DIGITS, C0011),
+    Row(5, 26, 16, Class::Filled, C0098),
+    Row(6, 42, 13, DIGITS, C0088),
+    Row(6, 42, 13, Class::NotZero, C0061),
+    Row(7, 55, 13, Class::CodeText, C0098),
+    Row(8, 68, 5, Class::FailedOrPart, C0088),
+    Row(9, 73, 16, PASSBOOK, C0068),
+    Row(10, 89, 2, Class::CodeText, C0098),
+    Row(11, 91, 20, Class::Filled, C0098),
+    Row(12, 111, 5, FREE, C0088),
+    Row(13, 116, 1, TYPES, C0075),
+    Row(14, 117, 12, FREE, C0088),
+    Row(15, 129, 21, SPACES, C0089),
+    BLANK,
+];
+
+const EB13_TRAILER: [Row; MOST] = [
+    Row(1, 0, 1, MARK_T, C0081),
+    Row(2, 1, 8, NINES, C0081),
+    Row(3, 9, 10, Class::AsHeader, C0000),
+    Row(4, 19, 8, Class::AsHeader, C0000),
+    Row(5, 27, 8, DIGITS, C0088),
+    Row(6, 35, 8, DIGITS, C0088),
+    Row(7, 43, 8, ZEROS, C0090),
+    Row(8, 51, 8, DIGITS, C0088),
+    Row(9, 59, 8, DIGITS, C0088),
+    Row(10, 67, 43, SPACES, C0089),
+    Row(11, 110, 10, SPACES, C0089),
+    BLANK,
+    BLANK,
+    BLANK,
+    BLANK,
+    BLANK,
+    BLANK,
+];
+
+const EB14_TRAILER: [Row; MOST] = [
+    Row(1, 0, 1, MARK_T, C0081),
+    Row(2, 1, 8, NINES, C0081),
+    Row(3, 9, 10, Class::AsHeader, C0000),
+    Row(4, 19, 8, Class::AsHeader, C0000),
+    Row(5, 27, 8, DIGITS, C0088),
+    Row(6, 35, 8, DIGITS, C0088),
+    Row(7, 43, 8, ZEROS, C0090),
+    Row(8, 51, 8, DIGITS, C0088),
+    Row(9, 59, 8, DIGITS, C0088),
+    Row(10, 67, 43, SPACES, C0089),
+    Row(11, 110, 10, FREE, C0088),
+    BLANK,
+    BLANK,
+    BLANK,
+    BLANK,
+    BLANK,
+    BLANK,
+];
+
+const EB21_TRAILER: [Row; MOST] = [
+    Row(1, 0, 1, MARK_T, C0081),
+    Row(2, 1, 8, NINES, C0081),
+    Row(3, 9, 10, Class::AsHeader, C0000),
+    Row(4, 19, 8, Class::AsHeader, C0000),
+    Row(5, 27, 8, DIGITS, C0088),
+    Row(6, 35, 8, DIGITS, C0088),
+    Row(7, 43, 13, DIGITS, C0088),
+    Row(8, 56, 8, ZEROS, C0090),
+    Row(9, 64, 13, ZEROS, C0090),
+    Row(10, 77, 63, SPACES, C0089),
+    Row(11, 140, 10, SPACES, C0089),
+    BLANK,
+    BLANK,
+    BLANK,
+    BLANK,
+    BLANK,
+    BLANK,
+];
+
+const EB22_TRAILER: [Row; MOST] = [
+    Row(1, 0, 1, MARK_T, C0081),
+    Row(2, 1, 8, NINES, C0081),
+    Row(3, 9, 10, Class::AsHeader, C0000),
+    Row(4, 19, 8, Class::AsHeader, C0000),
+    Row(5, 27, 8, DIGITS, C0088),
+    Row(6, 35, 8, DIGITS, C0088),
+    Row(7, 43, 13, DIGITS, C0088),
+    Row(8, 56, 8, DIGITS, C0088),
+    Row(9, 64, 13, DIGITS, C0088),
+    Row(10, 77, 8, DIGITS, C0088),
+    Row(11, 85, 4, ZEROS, C0090),
+    Row(12, 89, 11, DIGITS, C0088),
+    Row(13, 100, 11, ZEROS, C0090),
+    Row(14, 111, 29, SPACES, C0089),
+    Row(15, 140, 10, FREE, C0088),
+    BLANK,
+    BLANK,
+];
+
+fn enrolment_header() -> [Row; MOST]
+    ensures { λ r. ⌜ r ≡ laidOut enrolmentHeader ⌝ }
+{
+    ENROLMENT_HEADER
+}
+
+fn debit_header() -> [Row; MOST]
+    ensures { λ r. ⌜ r ≡ laidOut debitHeader ⌝ }
+{
+    DEBIT_HEADER
+}
+
+fn eb13_data() -> [Row; MOST]
+    ensures { λ r. ⌜ r ≡ laidOut eb13Data ⌝ }
+{
+    EB13_DATA
+}
+
+fn eb14_data() -> [Row; MOST]
+    ensures { λ r. ⌜ r ≡ laidOut eb14Data ⌝ }
+{
+    EB14_DATA
+}
+
+fn eb21_data() -> [Row; MOST]
+    ensures { λ r. ⌜ r ≡ laidOut eb21Data ⌝ }
+{
+    EB21_DATA
+}
+
+fn eb22_data() -> [Row; MOST]
+    ensures { λ r. ⌜ r ≡ laidOut eb22Data ⌝ }
+{
+    EB22_DATA
+}
+
+fn eb13_trailer() -> [Row; MOST]
+    ensures { λ r. ⌜ r ≡ laidOut eb13Trailer ⌝ }
+{
+    EB13_TRAILER
+}
+
+fn eb14_trailer() -> [Row; MOST]
+    ensures { λ r. ⌜ r ≡ laidOut eb14Trailer ⌝ }
+{
+    EB14_TRAILER
+}
+
+fn eb21_trailer() -> [Row; MOST]
+    ensures { λ r. ⌜ r ≡ laidOut eb21Trailer ⌝ }
+{
+    EB21_TRAILER
+}
+
+fn eb22_trailer() -> [Row; MOST]
+    ensures { λ r. ⌜ r ≡ laidOut eb22Trailer ⌝ }
+{
+    EB22_TRAILER
+}
+
+// The rows of the record, handed out once for all of them.
+pub fn rows_of(kind: Kind, role: Role) -> [Row; MOST]
+    ensures { λ r. ⌜ r ≡ laidOut (rowsOf kind role) ⌝ }
+{
+    match role {
+        Role::Header => match kind {
+            Kind::EB13 => enrolment_header(),
+            Kind::EB14 => enrolment_header(),
+            Kind::EB21 => debit_header(),
+            Kind::EB22 => debit_header(),
+        },
+        Role::Data => match kind {
+            Kind::EB13 => eb13_data(),
+            Kind::EB14 => eb14_data(),
+            Kind::EB21 => eb21_data(),
+            Kind::EB22 => eb22_data(),
+        },
+        Role::Trailer => match kind {
+            Kind::EB13 => eb13_trailer(),
+            Kind::EB14 => eb14_trailer(),
+            Kind::EB21 => eb21_trailer(),
+            Kind::EB22 => eb22_trailer(),
+        },
+    }
+}
