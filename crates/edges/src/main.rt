@@ -1,18 +1,31 @@
-// Builds files at the edge of the rules, reads or writes each, and prints one line for it: its name and the answer.
+// Builds files at the edge of the rules, reads, writes or pairs them, and prints for each case its name and the answer.
 mod again;
 mod cases;
+mod changes;
 mod files;
 mod good;
+mod lists;
+mod pairs;
 mod reads;
+mod rooms;
 mod told;
 mod values;
 mod writes;
 
+ghost use mathlib.Core.Path.{_≡_};
+ghost use lib.ListN.{length};
 use libc::STDIN_FILENO;
 
-// The list of cases stands on standard input, which is held whole: it is some 100,000 bytes long.
+// Room for all of standard input.
+pub(crate) fn space() -> [u8; 163840]
+    ensures { λ r. ⌜ 163840 ≡ length r ⌝ }
+{
+    [0; 163840]
+}
+
+// The samples and the list of cases stand on standard input, which is held whole.
 fn main() {
-    let mut text = [0u8; 131072];
+    let mut text = space();
     let n = io::read_full(STDIN_FILENO, &mut text);
     cases::run_all(&text[..n]);
 }

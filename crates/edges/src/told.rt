@@ -1,29 +1,46 @@
-// The line of one case.
-ghost use Prim.Native.Nat.{_≤_, _<_};
+// What is told of a case.
 use answers::told::Answer;
 use libc::STDOUT_FILENO;
-use text::parts;
+use numbers::base_ten;
+use outcomes::cases::Outcome;
+
+pub(crate) fn tell_bytes(bytes: &[u8]) {
+    io::write_all(STDOUT_FILENO, bytes);
+}
 
 pub(crate) fn tell_number(n: u64) {
-    io::write_all(STDOUT_FILENO, b" ");
+    tell_bytes(b" ");
     io::print_decimal(STDOUT_FILENO, n);
+}
+
+// The line ends.
+pub(crate) fn end() {
+    tell_bytes(b"\n");
+}
+
+// A letter of a code; a space shows as a hyphen.
+fn shown(code: u64, d: usize) -> u8 {
+    match base_ten::letter(code, d) {
+        b' ' => b'-',
+        b => b,
+    }
 }
 
 // A code as its four characters.
 fn tell_code(code: u64) {
     let word = [
         b' ',
-        (code / 0x100_0000 % 0x100) as u8,
-        (code / 0x1_0000 % 0x100) as u8,
-        (code / 0x100 % 0x100) as u8,
-        (code % 0x100) as u8,
+        shown(code, 0),
+        shown(code, 1),
+        shown(code, 2),
+        shown(code, 3),
     ];
-    io::write_all(STDOUT_FILENO, &word);
+    tell_bytes(&word);
 }
 
 // A name, then side, number, record, item, code.
 pub(crate) fn tell(name: &[u8], answer: Answer) {
-    io::write_all(STDOUT_FILENO, name);
+    tell_bytes(name);
     tell_number(answer.side);
     tell_number(answer.number);
     tell_number(answer.rec);
@@ -31,19 +48,24 @@ pub(crate) fn tell(name: &[u8], answer: Answer) {
     tell_code(answer.code);
 }
 
-// The line ends.
-pub(crate) fn end() {
-    io::write_all(STDOUT_FILENO, b"\n");
-}
-
-// The records of a file, a line for each.
-pub(crate) fn tell_records(file: &[u8], size: usize)
-    requires { ⌜ (0 < size) × (size ≤ 150) ⌝ }
-{
-    let mut left = file;
-    while size <= left.len() {
-        io::write_all(STDOUT_FILENO, parts::part(left, 0, size));
-        end();
-        left = &left[size..];
+// The outcome by its name, then what it carries.
+pub(crate) fn tell_outcome(outcome: Outcome) {
+    match outcome {
+        Outcome::None => tell_bytes(b" none"),
+        Outcome::Whole(taken) => {
+            tell_bytes(b" whole");
+            tell_number(taken);
+        }
+        Outcome::Part(taken, not_taken, code) => {
+            tell_bytes(b" part");
+            tell_number(taken);
+            tell_number(not_taken);
+            tell_code(code);
+        }
+        Outcome::Refused(not_taken, code) => {
+            tell_bytes(b" refused");
+            tell_number(not_taken);
+            tell_code(code);
+        }
     }
 }

@@ -1,18 +1,34 @@
 // What a word of a case says.
 ghost use Prim.Native.Nat.{_<_};
+use kinds::of_files::Fixed;
+use kinds::of_files::Kind;
 use numbers::base_ten;
 
-// The number that a word of at most five digits says; a longer one says nothing.
-pub(crate) fn number(s: &[u8]) -> usize
-    ensures { λ r. ⌜ r < 100000 ⌝ }
-{
-    if s.len() <= 5 {
-        return base_ten::number(s) as usize;
+// The number that a word of at most nineteen digits says; a longer one says nothing.
+pub(crate) fn number(s: &[u8]) -> u64 {
+    if s.len() <= 19 {
+        return base_ten::number(s);
     }
     0
 }
 
-// The kind whose four letters the word is, as one number.
-pub(crate) fn kind(s: &[u8]) -> u64 {
-    base_ten::word(s)
+// A number that counts records or bytes; nothing where it is too large.
+pub(crate) fn count(s: &[u8]) -> usize
+    ensures { λ r. ⌜ r < 100000 ⌝ }
+{
+    let n = number(s);
+    if n < 100000 {
+        return n as usize;
+    }
+    0
+}
+
+// The kind that a name says; EB21 where it is unknown.
+pub(crate) fn kind(name: u64) -> Kind {
+    match name {
+        Fixed::EB13 => Kind::EB13,
+        Fixed::EB14 => Kind::EB14,
+        Fixed::EB22 => Kind::EB22,
+        _ => Kind::EB21,
+    }
 }

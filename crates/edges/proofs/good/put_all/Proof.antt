@@ -7,13 +7,13 @@ use Rattle.edges.proofs.good.put_all.Statement.{statement}
 use Rattle.edges.proofs.good.put_all.Tie as tie
 
 abbrev Inv-loop : tie.InvT-loop
-Inv-loop file₀ sample size payer n i₀ file i = (length file ≡ length file₀) × (i ≤ n)
+Inv-loop file₀ sample size n i₀ file i = (length file ≡ length file₀) × (i ≤ n)
 
 abbrev μ-loop : tie.MeasureT-loop
-μ-loop file₀ sample size payer n i₀ file i = n - i
+μ-loop file₀ sample size n i₀ file i = n - i
 
-record-of-requires : tie.Need-record-of-requires Inv-loop μ-loop
-record-of-requires c κs = search needs
+field-requires : tie.Need-field-requires Inv-loop μ-loop
+field-requires c κs = search needs
 
 put-requires : tie.Need-put-requires Inv-loop μ-loop
 put-requires c κs = search needs
@@ -39,8 +39,8 @@ add-start c = search needs
 start-requires : tie.Need-start-requires Inv-loop μ-loop
 start-requires c κs = search needs
 
-record-of-requires-2 : tie.Need-record-of-requires-2 Inv-loop μ-loop
-record-of-requires-2 c κs = search needs
+field-requires-2 : tie.Need-field-requires-2 Inv-loop μ-loop
+field-requires-2 c κs = search needs
 
 put-requires-2 : tie.Need-put-requires-2 Inv-loop μ-loop
 put-requires-2 c κs = search needs
@@ -57,7 +57,7 @@ put-all-spec =
     (tie.spec
     Inv-loop
     μ-loop
-    record-of-requires
+    field-requires
     put-requires
     loop-holds
     add-i
@@ -66,7 +66,7 @@ put-all-spec =
     loop-again
     add-start
     start-requires
-    record-of-requires-2
+    field-requires-2
     put-requires-2
     same-length
     returns)
