@@ -1,16 +1,12 @@
 // An answer as the numbers that are lent.
 ghost use mathlib.Core.Path.{_≡_};
-ghost use Rattle.outcomes.specs.Outcomes.{fourOf};
 ghost use Rattle.walker.specs.Walks.{threeOf};
 ghost use Rattle.cms.specs.Face.{five, nine, eight};
 use answers::told::Answer;
-use outcomes::cases::Outcome;
+use outcomes::cases;
 use outcomes::cases::Told;
 use walker::walking::Step;
 use walker::walking::Walked;
-
-// Four spaces: no code.
-const BLANK: u64 = 0x2020_2020;
 
 // Stores side, number, record, item and code, and returns the number.
 pub(crate) fn tell(told: Answer, answer: &mut [u64; 5]) -> u64
@@ -21,17 +17,6 @@ pub(crate) fn tell(told: Answer, answer: &mut [u64; 5]) -> u64
     told.number
 }
 
-fn four(outcome: Outcome) -> [u64; 4]
-    ensures { λ r. ⌜ r ≡ fourOf outcome ⌝ }
-{
-    match outcome {
-        Outcome::None => [0, 0, 0, BLANK],
-        Outcome::Whole(taken) => [1, taken, 0, BLANK],
-        Outcome::Part(taken, not_taken, code) => [2, taken, not_taken, code],
-        Outcome::Refused(not_taken, code) => [3, 0, not_taken, code],
-    }
-}
-
 // The same with what an outcome says.
 pub(crate) fn tell_outcome(told: Told, answer: &mut [u64; 9]) -> u64
     ensures { λ r. ⌜ r ≡ told .answer .number ⌝ }
@@ -39,7 +24,7 @@ pub(crate) fn tell_outcome(told: Told, answer: &mut [u64; 9]) -> u64
 {
     let said = told.answer;
     let outcome = told.outcome;
-    let four = four(outcome);
+    let four = cases::four(outcome);
     *answer = [
         said.side,
         said.number,

@@ -1,12 +1,12 @@
 // The lines of the posting program, each put at a place of a lent buffer.
 ghost use mathlib.Core.Path.{_≡_};
 ghost use Prim.Native.Nat.{_+_, _≤_};
-ghost use lib.ListN.{length, getD};
-ghost use Rattle.outcomes.specs.Outcomes.{fourOf};
+ghost use lib.ListN.{length};
 ghost use Rattle.posting.specs.Lines.{wordFor, refusalLine, acceptedLine, requestLine};
 ghost use Rattle.posting.specs.Puts.{putAt};
 use crate::puts;
 use answers::told::Answer;
+use outcomes::cases;
 use outcomes::cases::Outcome;
 use outcomes::sums::Sums;
 
@@ -54,40 +54,6 @@ fn put_word(text: &mut [u8], at: usize, outcome: Outcome) -> usize
     }
 }
 
-fn taken_of(outcome: Outcome) -> u64
-    ensures { λ r. ⌜ r ≡ getD (fourOf outcome) 1 0 ⌝ }
-{
-    match outcome {
-        Outcome::None => 0,
-        Outcome::Whole(taken) => taken,
-        Outcome::Part(taken, _, _) => taken,
-        Outcome::Refused(_, _) => 0,
-    }
-}
-
-fn not_taken_of(outcome: Outcome) -> u64
-    ensures { λ r. ⌜ r ≡ getD (fourOf outcome) 2 0 ⌝ }
-{
-    match outcome {
-        Outcome::None => 0,
-        Outcome::Whole(_) => 0,
-        Outcome::Part(_, not_taken, _) => not_taken,
-        Outcome::Refused(not_taken, _) => not_taken,
-    }
-}
-
-// Four spaces where there is no code.
-fn code_of(outcome: Outcome) -> u64
-    ensures { λ r. ⌜ r ≡ getD (fourOf outcome) 3 0 ⌝ }
-{
-    match outcome {
-        Outcome::None => 0x2020_2020,
-        Outcome::Whole(_) => 0x2020_2020,
-        Outcome::Part(_, _, code) => code,
-        Outcome::Refused(_, code) => code,
-    }
-}
-
 // NUMBER OUTCOME TAKEN NOT-TAKEN CODE
 pub(crate) fn put_request(text: &mut [u8], at: usize, number: u64, outcome: Outcome) -> usize
     requires { ⌜ at + 80 ≤ length (now text) ⌝ }
@@ -95,9 +61,10 @@ pub(crate) fn put_request(text: &mut [u8], at: usize, number: u64, outcome: Outc
     ensures { λ _. ⌜ now (text .exit) ≡ putAt at (requestLine number outcome) (now (text .entry)) ⌝ }
     ensures { λ r. ⌜ r ≤ at + 80 ⌝ }
 {
+    let four = cases::four(outcome);
     let word = puts::put_number(text, at, number, b' ');
     let taken = put_word(text, word, outcome);
-    let not_taken = puts::put_number(text, taken, taken_of(outcome), b' ');
-    let code = puts::put_number(text, not_taken, not_taken_of(outcome), b' ');
-    puts::put_code(text, code, code_of(outcome))
+    let not_taken = puts::put_number(text, taken, four[1], b' ');
+    let code = puts::put_number(text, not_taken, four[2], b' ');
+    puts::put_code(text, code, four[3])
 }
