@@ -1,18 +1,18 @@
 -- The row over a place of a record: each place has one, and it is the row whose places these are.
 -- Assumes nothing.
-use Prim.Native.Nat.{ℕ, suc, _+_, _-_, _≤_, _<_, zero-le}
+use Prim.Native.Nat.{ℕ, zero, suc, _+_, _-_, _≤_, _<_, zero-le}
 use mathlib.Core.Bool.{Bool, true, false, _&&_, _||_}
 use mathlib.Core.List.{List, [], _∷_}
 use mathlib.Core.Path.{_≡_, refl, ap, sym, _∙_}
 use mathlib.Core.Logic.{⊎-elim}
-use native.Mathlib.Nat.{le-add-right}
+use native.Mathlib.Nat.{le-add-right, le-trans, le-of-suc-le-suc, eq-or-lt-of-le, not-suc-le-zero}
 use native.Mathlib.Omega.{arith}
 use borrow.Author.Tests.{leb-true, ltb-true, le-leb, lt-ltb, le-ltb, ltb-false, eqb-true}
 use lib.Dec.{leb, ltb, eqb}
 use lib.ListN.{length, getD, List·getD-eq-default}
 use Rattle.laws.specs.Least.{further, least, none}
 use Rattle.laws.proofs.Bools.{and-left, and-right, or-cases, either}
-use Rattle.laws.proofs.Leasts.{least-is, least-none, least-some, least-stop, none-each}
+use Rattle.laws.proofs.Leasts.{Least, least-is, least-none, least-some, least-stop, none-each}
 use Rattle.kinds.specs.declared.of_files.Kind.{Kind}
 use Rattle.kinds.specs.declared.of_files.Kind.the-variants.{EB13, EB14, EB21, EB22}
 use Rattle.kinds.specs.declared.of_files.Role.{Role}
@@ -25,6 +25,7 @@ use Rattle.tables.proofs.Tiling.{rows-tile}
 use Rattle.rows.specs.Laid.{most, laidOut}
 use Rattle.rows.proofs.Laying.{laid-length, first-laid, rows-fit}
 use Rattle.making.specs.Bytes.{overRow, over, rowOver}
+use Rattle.making.proofs.Rows.{laid-small}
 
 -- a row is over the places from its start to its end
 over-if : (r : Row) (j : ℕ) → r .1 ≤ j → j < r .1 + r .2 → overRow r j ≡ true
@@ -97,6 +98,71 @@ row-over k role j h =
     let t = least-is (over rows j) (length rows) .holds l in
     (i, record { inside = l; is = refl; low = over-low (getD rows i blank) j t; high = over-high (getD rows i blank) j t })
 
+-- the rows of a record begin one after the other
+next-start : (r : Row) (item start size : ℕ) → next r item start size ≡ true → start ≤ r .1
+unfolding next
+next-start r item start size t =
+    ⊎-elim
+    (λ h. omega (arith, eqb-true (r .1) start (and-left (eqb (r .1) start) (eqb (r .2) size) (and-right (eqb (r .0) item) _ h))))
+    (λ h. omega (arith, eqb-true (r .1) (start + size) (and-right (eqb (r .0) item || eqb (r .0) (item + 1)) (eqb (r .1) (start + size)) h)))
+    (or-cases (eqb (r .0) item && (eqb (r .1) start && eqb (r .2) size)) ((eqb (r .0) item || eqb (r .0) (item + 1)) && eqb (r .1) (start + size)) t)
+
+start-least :
+    (whole item start size : ℕ) (rows : List Row) → tilesFrom whole item start size rows ≡ true → (i : ℕ) → i < length rows → start ≤ getD rows i blank .1
+unfolding tilesFrom
+start-least whole item start size [] t i h = absurd (not-suc-le-zero h)
+start-least whole item start size (r ∷ rows) t zero h = next-start r item start size (and-left (next r item start size) _ t)
+start-least whole item start size (r ∷ rows) t (suc i) h =
+    le-trans (next-start r item start size (and-left (next r item start size) _ t))
+    (start-least whole (r .0) (r .1) (r .2) rows (and-right (next r item start size) _ t) i (le-of-suc-le-suc h))
+
+starts-rise :
+    (whole item start size : ℕ) (rows : List Row) → tilesFrom whole item start size rows ≡ true →
+    (m i : ℕ) → m < i → i < length rows → getD rows m blank .1 ≤ getD rows i blank .1
+unfolding tilesFrom
+starts-rise whole item start size [] t m i l h = absurd (not-suc-le-zero h)
+starts-rise whole item start size (r ∷ rows) t m zero l h = absurd (not-suc-le-zero l)
+starts-rise whole item start size (r ∷ rows) t zero (suc i) l h =
+    start-least whole (r .0) (r .1) (r .2) rows (and-right (next r item start size) _ t) i (le-of-suc-le-suc h)
+starts-rise whole item start size (r ∷ rows) t (suc m) (suc i) l h =
+    starts-rise whole (r .0) (r .1) (r .2) rows (and-right (next r item start size) _ t) m i (le-of-suc-le-suc l) (le-of-suc-le-suc h)
+
+-- a row that began, and is not over a place, has ended
+ended : (r : Row) (j : ℕ) → r .1 ≤ j → overRow r j ≡ false → r .1 + r .2 ≤ j
+unfolding overRow
+ended r j a f = ltb-false j (r .1 + r .2) (rw (le-leb (r .1) j a) at f)
+
+-- so the row over a place is the one over the next place too, if it is over it
+pub row-stays : (k : Kind) (role : Role) (j : ℕ) → overRow (rowOver (rowsOf k role) j) (j + 1) ≡ true → rowOver (rowsOf k role) j ≡ rowOver (rowsOf k role) (j + 1)
+unfolding tiles rowOver over
+row-stays k role j t = ⊎-elim past found (eq-or-lt-of-le (l .within))
+  where
+    rows : List Row
+    rows = rowsOf k role
+
+    i : ℕ
+    i = least (over rows j) (length rows)
+
+    l : Least (over rows j) (length rows) i
+    l = least-is (over rows j) (length rows)
+
+    past : i ≡ length rows → rowOver rows j ≡ rowOver rows (j + 1)
+    past e = absurd (omega (arith, over-high blank (j + 1) (ap (λ (r : Row). overRow r (j + 1)) (sym none-over) ∙ t)))
+      where
+        none-over : getD rows i blank ≡ blank
+        none-over = List·getD-eq-default rows blank (omega arith)
+
+    found : i < length rows → rowOver rows j ≡ rowOver rows (j + 1)
+    found h =
+        ap (λ (m : ℕ). getD rows m blank)
+        (sym (least-stop (over rows (j + 1)) i (length rows) h (least-none (over rows (j + 1)) i before) t))
+      where
+        before : (m : ℕ) → m < i → over rows (j + 1) m ≡ false
+        before m b =
+            let rise = starts-rise (fixedOf k .size) 0 0 0 rows (rows-tile k role) m i b h in
+            over-past (getD rows m blank) (j + 1)
+            (omega (arith, ended (getD rows m blank) j (omega (arith, rise, over-low (getD rows i blank) j (l .holds h))) (l .before m b)))
+
 -- row m ends past the start of row i
 unfoldable pub endsPast : List Row → ℕ → ℕ → Bool
 endsPast rows i m = ltb (getD rows i blank .1) (getD rows m blank .1 + getD rows m blank .2)
@@ -153,6 +219,14 @@ front-third EB22 j g h = sym (over-of (rowsOf EB22 Data) 2 j (getD dataFront 2 b
 pub over-laid : (rows : List Row) → length rows ≤ most → (j : ℕ) → rowOver (laidOut rows) j ≡ rowOver rows j
 unfolding rowOver over
 over-laid rows h j = first-laid (λ r. overRow r j) rows h
+
+-- it is small
+laid-over-small : (k : Kind) (role : Role) (j : ℕ) → rowOver (laidOut (rowsOf k role)) j .1 + rowOver (laidOut (rowsOf k role)) j .2 < 1000
+unfolding rowOver
+laid-over-small k role j = laid-small k role (laidOut (rowsOf k role)) refl _
+
+pub over-small : (k : Kind) (role : Role) (j : ℕ) → rowOver (rowsOf k role) j .1 + rowOver (rowsOf k role) j .2 < 1000
+over-small k role j = rw (← over-laid (rowsOf k role) (rows-fit k role) j) (laid-over-small k role j)
 
 -- a loop over a table that lays out a record's rows: no row before i is over place j so far
 module _ (k : Kind) (role : Role) (rows : List Row) (laid : rows ≡ laidOut (rowsOf k role)) (j : ℕ) where

@@ -11,6 +11,7 @@ use kinds::of_files::Fixed;
 use kinds::of_files::Kind;
 use kinds::of_files::Role;
 use numbers::base_ten;
+use tables::rows::Row;
 use tables::totals;
 use text::parts;
 
@@ -44,12 +45,20 @@ fn past(start: usize, j: usize) -> usize
     0
 }
 
-// Byte j of the header.
-fn header_byte(kind: Kind, date: &[u8], code: &[u8], item6: &[u8], item7: &[u8], j: usize) -> u8
+// Byte j of the header, by the row over it.
+fn header_byte(
+    row: Row,
+    kind: Kind,
+    date: &[u8],
+    code: &[u8],
+    item6: &[u8],
+    item7: &[u8],
+    j: usize,
+) -> u8
+    requires { ⌜ row ≡ rowOver (rowsOf kind Role.Header) j ⌝ }
     requires { ⌜ j < 1000 ⌝ }
     ensures { λ r. ⌜ r ≡ headerByte kind (headOf (now (date .entry)) (now (code .entry)) (now (item6 .entry)) (now (item7 .entry))) j ⌝ }
 {
-    let row = bytes::row_over(kind, Role::Header, j);
     let d = past(row.1, j);
     let given = given_byte(date, code, item6, item7, row.0, d);
     let letter = base_ten::letter(Fixed::of(kind).name, d);
@@ -98,11 +107,11 @@ fn total_for(kind: Kind, sums: [u64; 5], item: u64) -> u64
     0
 }
 
-// Byte j of the trailer.
-fn trailer_byte(kind: Kind, header: &[u8], sums: [u64; 5], j: usize) -> u8
+// Byte j of the trailer, by the row over it.
+fn trailer_byte(row: Row, kind: Kind, header: &[u8], sums: [u64; 5], j: usize) -> u8
+    requires { ⌜ row ≡ rowOver (rowsOf kind Role.Trailer) j ⌝ }
     ensures { λ r. ⌜ r ≡ trailerByte kind (now (header .entry)) sums j ⌝ }
 {
-    let row = bytes::row_over(kind, Role::Trailer, j);
     let digit = base_ten::digit_at(total_for(kind, sums, row.0), row.2, past(row.1, j));
     let class = row.3;
     bytes::fill(class, digit, 0, 0, parts::byte(header, j))
@@ -120,9 +129,11 @@ pub(crate) fn header_120(
     ensures { λ r. ⌜ r ≡ headerBuilt kind (headOf (now (date .entry)) (now (code .entry)) (now (item6 .entry)) (now (item7 .entry))) ⌝ }
 {
     let mut rec = [0u8; 120];
+    let mut row = bytes::row_over(kind, Role::Header, 0);
     let mut j = 0;
     while j < 120 {
-        rec[j] = header_byte(kind, date, code, item6, item7, j);
+        rec[j] = header_byte(row, kind, date, code, item6, item7, j);
+        row = bytes::next_row(kind, Role::Header, row, j);
         j += 1;
     }
     rec
@@ -149,9 +160,11 @@ pub(crate) fn trailer_120(kind: Kind, header: &[u8], sums: [u64; 5]) -> [u8; 120
     ensures { λ r. ⌜ r ≡ trailerBuilt kind (now (header .entry)) sums ⌝ }
 {
     let mut rec = [0u8; 120];
+    let mut row = bytes::row_over(kind, Role::Trailer, 0);
     let mut j = 0;
     while j < 120 {
-        rec[j] = trailer_byte(kind, header, sums, j);
+        rec[j] = trailer_byte(row, kind, header, sums, j);
+        row = bytes::next_row(kind, Role::Trailer, row, j);
         j += 1;
     }
     rec
@@ -169,9 +182,11 @@ pub(crate) fn header_150(
     ensures { λ r. ⌜ r ≡ headerBuilt kind (headOf (now (date .entry)) (now (code .entry)) (now (item6 .entry)) (now (item7 .entry))) ⌝ }
 {
     let mut rec = [0u8; 150];
+    let mut row = bytes::row_over(kind, Role::Header, 0);
     let mut j = 0;
     while j < 150 {
-        rec[j] = header_byte(kind, date, code, item6, item7, j);
+        rec[j] = header_byte(row, kind, date, code, item6, item7, j);
+        row = bytes::next_row(kind, Role::Header, row, j);
         j += 1;
     }
     rec
@@ -198,9 +213,11 @@ pub(crate) fn trailer_150(kind: Kind, header: &[u8], sums: [u64; 5]) -> [u8; 150
     ensures { λ r. ⌜ r ≡ trailerBuilt kind (now (header .entry)) sums ⌝ }
 {
     let mut rec = [0u8; 150];
+    let mut row = bytes::row_over(kind, Role::Trailer, 0);
     let mut j = 0;
     while j < 150 {
-        rec[j] = trailer_byte(kind, header, sums, j);
+        rec[j] = trailer_byte(row, kind, header, sums, j);
+        row = bytes::next_row(kind, Role::Trailer, row, j);
         j += 1;
     }
     rec

@@ -50,7 +50,6 @@ pub(crate) fn fill(class: Class, given: u8, letter: u8, digit: u8, theirs: u8) -
 // The first row over place j.
 pub(crate) fn row_over(kind: Kind, role: Role, j: usize) -> Row
     ensures { λ r. ⌜ r ≡ rowOver (rowsOf kind role) j ⌝ }
-    ensures { λ r. ⌜ r .1 + r .2 < 1000 ⌝ }
 {
     let rows = by_record::rows_of(kind, role);
     let mut i = 0;
@@ -63,6 +62,18 @@ pub(crate) fn row_over(kind: Kind, role: Role, j: usize) -> Row
         i += 1;
     }
     Row(0, 0, 0, Class::Each(0, 0), 0)
+}
+
+// The row over the next place, where `row` is the one over place j: most often the same.
+pub(crate) fn next_row(kind: Kind, role: Role, row: Row, j: usize) -> Row
+    requires { ⌜ j < 1000 ⌝ }
+    requires { ⌜ row ≡ rowOver (rowsOf kind role) j ⌝ }
+    ensures { λ r. ⌜ r ≡ rowOver (rowsOf kind role) (j + 1) ⌝ }
+{
+    if over(row, j + 1) {
+        return row;
+    }
+    row_over(kind, role, j + 1)
 }
 
 // The row over place j of items 1 to 3, whatever the kind: no table of a whole record is laid out for it.

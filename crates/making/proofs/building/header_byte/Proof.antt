@@ -5,9 +5,6 @@ use native.Mathlib.Omega.{arith}
 use Rattle.making.proofs.building.header_byte.Statement.{statement}
 use Rattle.making.proofs.building.header_byte.Tie as tie
 
-row-over-requires : tie.Need-row-over-requires
-row-over-requires c κs = search needs
-
 past-requires : tie.Need-past-requires
 past-requires c κs = search needs
 
@@ -28,7 +25,7 @@ unfolding headerByte headerFill
 returns c =
     let g = c .before .before .before in
     rw (
-      ← g .before .before .row-over .ensures .0,
+      ← g .before .before .before .before .before .before .pre .0,
       ← g .before .past .ensures,
       ← g .given-byte .ensures,
       ← c .before .before .of .ensures,
@@ -39,7 +36,6 @@ pub header-byte-spec : {M : Type 1} → statement M
 header-byte-spec =
     tie.close
     (tie.spec
-    row-over-requires
     past-requires
     given-byte-requires
     of-requires

@@ -1,12 +1,11 @@
 -- What the row over the place says.
+use Rattle.kinds.specs.declared.of_files.Role.the-variants.{Trailer}
+use Rattle.making.proofs.Over.{over-small}
 use Rattle.making.specs.Records.{trailerFill, trailerByte}
 use borrow.Author.Needs.{needs}
 use native.Mathlib.Omega.{arith}
 use Rattle.making.proofs.building.trailer_byte.Statement.{statement}
 use Rattle.making.proofs.building.trailer_byte.Tie as tie
-
-row-over-requires : tie.Need-row-over-requires
-row-over-requires c κs = search needs
 
 total-for-requires : tie.Need-total-for-requires
 total-for-requires c κs = search needs
@@ -15,7 +14,9 @@ past-requires : tie.Need-past-requires
 past-requires c κs = search needs
 
 digit-at-requires : tie.Need-digit-at-requires
-digit-at-requires c κs = omega (arith, c .before .before .row-over .ensures .1)
+digit-at-requires c κs =
+    let q = c .before .before .before in
+    rw (q .pre) (omega (arith, over-small (q .args .kind) Trailer (q .args .j)))
 
 byte-requires : tie.Need-byte-requires
 byte-requires c κs = search needs
@@ -28,7 +29,7 @@ unfolding trailerByte trailerFill
 returns c =
     let t = c .before .before .before .before in
     rw (
-      ← t .before .row-over .ensures .0,
+      ← t .before .before .pre,
       ← t .total-for .ensures,
       ← c .before .before .before .past .ensures,
       ← c .before .before .digit-at .ensures,
@@ -39,7 +40,6 @@ pub trailer-byte-spec : {M : Type 1} → statement M
 trailer-byte-spec =
     tie.close
     (tie.spec
-    row-over-requires
     total-for-requires
     past-requires
     digit-at-requires

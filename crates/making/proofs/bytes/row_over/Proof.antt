@@ -41,10 +41,8 @@ returns : tie.Need-returns Inv-loop μ-loop
 returns c =
     let a = c .before .before .before .before .before .before .args in
     let t = c .before .before .before .before .before .rows-of in
-    let l = c .before .before .before .before .loop in (
-      laid-stop (a .kind) (a .role) (t .result) (t .ensures) (a .j) (l .i) (omega arith) (l .inv .1) (rw (← c .before .over .ensures) (c .if1 .taken)),
-      laid-small (a .kind) (a .role) (t .result) (t .ensures) (l .i),
-    )
+    let l = c .before .before .before .before .loop in
+    laid-stop (a .kind) (a .role) (t .result) (t .ensures) (a .j) (l .i) (omega arith) (l .inv .1) (rw (← c .before .over .ensures) (c .if1 .taken))
 
 add-i : tie.Need-add-i Inv-loop μ-loop
 add-i c = search needs
@@ -62,10 +60,8 @@ returns-2 : tie.Need-returns-2 Inv-loop μ-loop
 returns-2 c =
     let a = c .before .before .before .args in
     let t = c .before .before .rows-of in
-    let l = c .before .loop in (
-      laid-end (a .kind) (a .role) (t .result) (t .ensures) (a .j) (rw (le-antisymm (c .loop-test .left) (l .inv .0)) (l .inv .1)),
-      search needs,
-    )
+    let l = c .before .loop in
+    laid-end (a .kind) (a .role) (t .result) (t .ensures) (a .j) (rw (le-antisymm (c .loop-test .left) (l .inv .0)) (l .inv .1))
 
 pub row-over-spec : {M : Type 1} → statement M
 row-over-spec =
