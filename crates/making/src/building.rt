@@ -112,9 +112,13 @@ fn trailer_byte(row: Row, kind: Kind, header: &[u8], sums: [u64; 5], j: usize) -
     requires { ⌜ row ≡ rowOver (rowsOf kind Role.Trailer) j ⌝ }
     ensures { λ r. ⌜ r ≡ trailerByte kind (now (header .entry)) sums j ⌝ }
 {
-    let digit = base_ten::digit_at(total_for(kind, sums, row.0), row.2, past(row.1, j));
     let class = row.3;
-    bytes::fill(class, digit, 0, 0, parts::byte(header, j))
+    let theirs = parts::byte(header, j);
+    if bytes::fixed(class) {
+        return bytes::fill(class, 0, 0, 0, theirs);
+    }
+    let digit = base_ten::digit_at(total_for(kind, sums, row.0), row.2, past(row.1, j));
+    bytes::fill(class, digit, 0, 0, theirs)
 }
 
 // The header as its own 120 bytes.

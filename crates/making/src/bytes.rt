@@ -1,6 +1,7 @@
 // What stands at a place of a record to be written, by the row over it.
 ghost use mathlib.Core.Path.{_≡_};
-ghost use Prim.Native.Nat.{_+_, _<_};
+ghost use Prim.Native.Nat.{ℕ, _+_, _<_};
+ghost use mathlib.Core.Bool.{true};
 ghost use Rattle.tables.specs.Tables.{rowsOf};
 ghost use Rattle.making.specs.Bytes.{overRow, rowOver, fillBy};
 use kinds::of_files::Kind;
@@ -44,6 +45,16 @@ pub(crate) fn fill(class: Class, given: u8, letter: u8, digit: u8, theirs: u8) -
         Class::Failed => given,
         Class::FailedOrPart => given,
         Class::Least => given,
+    }
+}
+
+// A class of one byte writes it, whatever is given.
+pub(crate) fn fixed(class: Class) -> bool
+    ensures { λ r. ⌜ (r ≡ true → (given theirs : ℕ) → fillBy class given 0 0 theirs ≡ fillBy class 0 0 0 theirs) ⌝ }
+{
+    match class {
+        Class::Each(low, high) => low == high,
+        _ => false,
     }
 }
 
