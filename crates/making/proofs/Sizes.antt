@@ -24,7 +24,7 @@ wide EB21 ne = refl
 wide EB22 ne = refl
 
 -- a file of a kind is no longer than the frame
-pub frame-fits : (k : Kind) (n : ℕ) → n ≤ limit → (n + 2) * fixedOf k .size ≤ 64800
+pub frame-fits : (k : Kind) (n : ℕ) → n ≤ limit → (n + 2) * fixedOf k .size ≤ (limit + 2) * 150
 frame-fits EB13 n h = omega arith
 frame-fits EB14 n h = omega arith
 frame-fits EB21 n h = omega arith
