@@ -4,24 +4,33 @@ use mathlib.Core.List.{List}
 use lib.ListN.{getD}
 use Rattle.laws.specs.Part.{part}
 use Rattle.numbers.specs.Numbers.{valueOf}
+use Rattle.tables.specs.declared.copied.Copied.{Copied}
+use Rattle.tables.specs.Places.{datePlace, nameDayPlace, applicationPlace, amountPlace, debitedPlace, typePlace}
+
+-- the bytes at a place, and the first of them
+abbrev pub bytesAt : Copied → List ℕ → List ℕ
+bytesAt c rec = part (c .1) (c .2) rec
+
+abbrev pub byteAt : Copied → List ℕ → ℕ
+byteAt c rec = getD rec (c .1) 0
 
 -- of a header: the date, item 5, and the MMDD of the file name, in item 4
 abbrev pub dateOf : List ℕ → List ℕ
-dateOf header = part 27 6 header
+dateOf header = bytesAt datePlace header
 
 abbrev pub nameDay : List ℕ → List ℕ
-nameDay header = part 23 4 header
+nameDay header = bytesAt nameDayPlace header
 
 -- of an enrolment record: the application kind, item 5
 abbrev pub applicationOf : List ℕ → ℕ
-applicationOf rec = getD rec 25 0
+applicationOf rec = byteAt applicationPlace rec
 
 -- of a debit record: the amount, item 6; the result's mark, in item 8; the type, item 13
 abbrev pub amountOf : List ℕ → ℕ
-amountOf rec = valueOf (part 42 13 rec)
+amountOf rec = valueOf (bytesAt amountPlace rec)
 
 abbrev pub markOf : List ℕ → ℕ
-markOf rec = getD rec 68 0
+markOf rec = byteAt debitedPlace rec
 
 abbrev pub typeOf : List ℕ → ℕ
-typeOf rec = getD rec 116 0
+typeOf rec = byteAt typePlace rec

@@ -1,7 +1,7 @@
 // What a request asks, what its result says was not taken, and what was taken.
 ghost use mathlib.Core.Path.{_≡_};
 ghost use Prim.Native.Nat.{_+_, _-_, _<_, _^_};
-ghost use Rattle.records.specs.Records.{countOf};
+ghost use Rattle.records.specs.Records.{dataOf};
 ghost use Rattle.kinds.specs.Pairs.{requestKind};
 ghost use Rattle.terms.specs.Amounts.{asks};
 ghost use Rattle.matching.specs.Amounts.{askedAt, notTakenBy};
@@ -23,7 +23,7 @@ fn asks(pair: PairKind) -> Quantity
 
 // What request i + 1 asks.
 pub fn asked_at(pair: PairKind, request: &[u8], i: usize) -> u64
-    requires { ⌜ i + 1 < countOf (requestKind pair) (now request) ⌝ }
+    requires { ⌜ i < dataOf (requestKind pair) (now request) ⌝ }
     ensures { λ r. ⌜ r ≡ askedAt pair (now (request .entry)) i ⌝ }
     ensures { λ r. ⌜ r < 10 ^ 13 ⌝ }
 {

@@ -8,10 +8,8 @@ use mathlib.Core.Logic.{⊎-elim}
 use native.Mathlib.Omega.{arith}
 use borrow.Author.Tests.{ltb-true, ltb-false, leb-true, le-leb, ne-eqb}
 use lib.Dec.{leb, ltb}
-use lib.ListN.{getD, drop, List·getD-append}
-use Rattle.laws.specs.Tabulate.{tabulate}
+use lib.ListN.{getD}
 use Rattle.laws.proofs.Bools.{and-left, and-right, either}
-use Rattle.laws.proofs.Tabs.{tab-length, tab-at}
 use Rattle.kinds.specs.declared.of_files.Kind.{Kind}
 use Rattle.kinds.specs.Kinds.{limit}
 use Rattle.answers.specs.declared.told.Answer.{Answer}
@@ -29,7 +27,7 @@ use Rattle.pair.proofs.Possible.{possible-all}
 use Rattle.matching.specs.Matching.{resultFor}
 use Rattle.matching.specs.Amounts.{askedAt, takenAt, notTakenBy, notTakenAt}
 use Rattle.pair.specs.Pairing.{pairBy, pairAs, listAfter}
-use Rattle.pair.proofs.Stages.{list-filled}
+use Rattle.pair.proofs.Lent.{list-at}
 use Rattle.pair.proofs.Keys.{result-found, result-none}
 use Rattle.pair.proofs.Matched.{Paired, pair-known, lent-pair, result-met}
 use Rattle.outcomes.specs.Outcomes.{fourOf, told, failedBy, outcomeAt, asksFor, outcomeAs}
@@ -103,11 +101,6 @@ said-left p q r i l (OutcomeSays.whole n) = refl
 said-left p q r i l (OutcomeSays.part j x m) = refl
 said-left p q r i l (OutcomeSays.refused j x m) = refl
 
--- a lent list after an accepted pair, at the place of a request
-list-at : (a : Answer) (f : ℕ → ℕ) (n : ℕ) (l : List ℕ) (i : ℕ) → a .number ≡ 0 → i < n → getD (listAfter a f n l) i 0 ≡ f i
-list-at a f n l i e h =
-    rw (list-filled a f n l e) (List·getD-append (tabulate f n) (drop n l) 0 i (rw (tab-length f n) h) ∙ tab-at f n i h)
-
 -- a request that is asked for is one of them
 pub asks-for-is : (n rec : ℕ) → asksFor n rec ≡ true → (1 ≤ rec) × (rec ≤ n)
 unfolding asksFor
@@ -152,6 +145,6 @@ module _ (p : PairKind) (q r : List ℕ) (rec : ℕ) (first : 1 ≤ rec) (last :
       let s = one-outcome p q r true g (rec - 1) (omega arith) in
       rw (outcome-asked g) (record {
         answer = refl;
-        took = said-taken p q r (rec - 1) _ s ∙ sym (list-at a (takenAt p q r) n l (rec - 1) e (omega arith));
-        left = said-left p q r (rec - 1) _ s ∙ sym (list-at a (notTakenAt p q r) n m (rec - 1) e (omega arith));
+        took = said-taken p q r (rec - 1) _ s ∙ sym (list-at a (takenAt p q r) n l e (rec - 1) (omega arith));
+        left = said-left p q r (rec - 1) _ s ∙ sym (list-at a (notTakenAt p q r) n m e (rec - 1) (omega arith));
       })

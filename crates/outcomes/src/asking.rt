@@ -2,7 +2,7 @@
 ghost use mathlib.Core.Path.{_≡_};
 ghost use Prim.Native.Nat.{_+_, _≤_, _<_};
 ghost use lib.ListN.{length};
-ghost use Rattle.records.specs.Records.{countOf};
+ghost use Rattle.records.specs.Records.{dataOf};
 ghost use Rattle.kinds.specs.Pairs.{requestKind, markStart};
 ghost use Rattle.matching.specs.Matching.{resultFor};
 ghost use Rattle.outcomes.specs.Outcomes.{told, failedBy, outcomeAt, asksFor, outcomeAs, outcomeTold};
@@ -44,7 +44,7 @@ fn failed_by(pair: PairKind, rec: &[u8], taken: u64, not_taken: u64) -> Outcome
 
 // The outcome of request i + 1, whose result, if it has one, is j + 1.
 pub fn outcome_at(pair: PairKind, request: &[u8], result: &[u8], i: usize, j: usize) -> Outcome
-    requires { ⌜ i + 1 < countOf (requestKind pair) (now request) ⌝ }
+    requires { ⌜ i < dataOf (requestKind pair) (now request) ⌝ }
     requires { ⌜ j ≡ resultFor pair (now request) (now result) i ⌝ }
     ensures { λ r. ⌜ r ≡ outcomeAt pair (now (request .entry)) (now (result .entry)) i ⌝ }
 {

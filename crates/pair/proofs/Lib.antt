@@ -9,3 +9,6 @@ pub mod Matched
 pub mod Exact
 pub mod Money
 pub mod Named
+pub mod Answered
+pub mod Applications
+pub mod Lent

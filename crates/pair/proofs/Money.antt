@@ -17,6 +17,8 @@ use Rattle.numbers.specs.Numbers.{valueOf}
 use Rattle.kinds.specs.declared.of_files.Kind.the-variants.{EB13, EB14, EB21, EB22}
 use Rattle.tables.specs.declared.totals.Quantity.{Quantity}
 use Rattle.tables.specs.declared.totals.Quantity.the-variants.{Records, OfKind, AmountsMarked}
+use Rattle.tables.specs.Tables.{trailerFront, enrolmentTrailer, eb13Trailer, eb14Trailer, eb21Trailer, eb22Trailer}
+use Rattle.tables.specs.Places.{placeIn}
 use Rattle.tables.specs.Totals.{noTotal, enrolmentTotals, eb21Totals, eb22Totals, totalsOf}
 use Rattle.records.specs.Records.{dataOf, trailerOf}
 use Rattle.records.specs.Quantities.{worth, worthAt, quantityOf}
@@ -31,7 +33,7 @@ use Rattle.pair.proofs.Possible.{possible-most}
 use Rattle.matching.specs.Matching.{requestFor, resultFor}
 use Rattle.matching.specs.Amounts.{askedAt, takenAt, notTakenBy, notTakenAt}
 use Rattle.pair.specs.Pairing.{pairBy, pairAs}
-use Rattle.pair.specs.Trailers.{failedAs, askedInAll}
+use Rattle.pair.specs.Trailers.{trailerSays, failedAs, askedInAll, failedInAll}
 use Rattle.pair.proofs.Keys.{result-back, request-back}
 use Rattle.pair.proofs.Matched.{Paired, pair-known, lent-pair, result-met}
 
@@ -89,13 +91,13 @@ not-taken-failed p q r i = refl
 -- debit: what was not taken, by the results' marks
 module _ (q r : List ℕ) (fits : Bool) (e : pairBy Debit q r fits .number ≡ 0) where
   -- of "N" results: item 7 of the result's trailer
-  pub debit-none : sum (failedAs Debit q r (AmountsMarked 0x4E)) (dataOf EB21 q) ≡ valueOf (part 43 13 (trailerOf EB22 r))
-  unfolding eb22Totals
+  pub debit-none : sum (failedAs Debit q r (AmountsMarked 0x4E)) (dataOf EB21 q) ≡ trailerSays EB22 7 r
+  unfolding eb22Totals trailerSays placeIn trailerFront eb22Trailer
   debit-none = result-totals Debit q r fits e 2 (omega arith)
 
   -- of "P" results: item 9
-  pub debit-part : sum (failedAs Debit q r (AmountsMarked 0x50)) (dataOf EB21 q) ≡ valueOf (part 64 13 (trailerOf EB22 r))
-  unfolding eb22Totals
+  pub debit-part : sum (failedAs Debit q r (AmountsMarked 0x50)) (dataOf EB21 q) ≡ trailerSays EB22 9 r
+  unfolding eb22Totals trailerSays placeIn trailerFront eb22Trailer
   debit-part = result-totals Debit q r fits e 4 (omega arith)
 
   -- a result is one or the other
@@ -109,7 +111,7 @@ module _ (q r : List ℕ) (fits : Bool) (e : pairBy Debit q r fits .number ≡ 0
           (debit-mark r (pair-known Debit q r fits e .result) (resultFor Debit q r i) (ltb-true (resultFor Debit q r i) (dataOf EB22 r) t)))
 
   -- of all results: both together
-  pub debit-not-taken : sum (notTakenAt Debit q r) (dataOf EB21 q) ≡ valueOf (part 43 13 (trailerOf EB22 r)) + valueOf (part 64 13 (trailerOf EB22 r))
+  pub debit-not-taken : sum (notTakenAt Debit q r) (dataOf EB21 q) ≡ trailerSays EB22 7 r + trailerSays EB22 9 r
   debit-not-taken =
       sum-add (failedAs Debit q r (AmountsMarked 0x4E)) (failedAs Debit q r (AmountsMarked 0x50)) (notTakenAt Debit q r) (dataOf EB21 q) (λ k l. either-mark k) ∙
       rw (debit-none, debit-part)
@@ -117,30 +119,37 @@ module _ (q r : List ℕ) (fits : Bool) (e : pairBy Debit q r fits .number ≡ 0
 -- enrolment: what was not taken, in all and by application kind
 module _ (q r : List ℕ) (fits : Bool) (e : pairBy Enrolment q r fits .number ≡ 0) where
   -- in all: the count, item 5 of the result's trailer
-  pub enrolment-not-taken : sum (notTakenAt Enrolment q r) (dataOf EB13 q) ≡ valueOf (part 27 8 (trailerOf EB14 r))
-  unfolding enrolmentTotals
+  pub enrolment-not-taken : sum (notTakenAt Enrolment q r) (dataOf EB13 q) ≡ trailerSays EB14 5 r
+  unfolding enrolmentTotals trailerSays placeIn trailerFront enrolmentTrailer eb14Trailer
   enrolment-not-taken =
       sum-same (notTakenAt Enrolment q r) (failedAs Enrolment q r Records) (dataOf EB13 q) (λ k l. not-taken-failed Enrolment q r k) ∙
       result-totals Enrolment q r fits e 0 (omega arith)
 
   -- of kind "1": item 6
-  pub enrolment-kind-1 : sum (failedAs Enrolment q r (OfKind 0x31)) (dataOf EB13 q) ≡ valueOf (part 35 8 (trailerOf EB14 r))
-  unfolding enrolmentTotals
+  pub enrolment-kind-1 : sum (failedAs Enrolment q r (OfKind 0x31)) (dataOf EB13 q) ≡ trailerSays EB14 6 r
+  unfolding enrolmentTotals trailerSays placeIn trailerFront enrolmentTrailer eb14Trailer
   enrolment-kind-1 = result-totals Enrolment q r fits e 1 (omega arith)
 
   -- of kind "3": item 8
-  pub enrolment-kind-3 : sum (failedAs Enrolment q r (OfKind 0x33)) (dataOf EB13 q) ≡ valueOf (part 51 8 (trailerOf EB14 r))
-  unfolding enrolmentTotals
+  pub enrolment-kind-3 : sum (failedAs Enrolment q r (OfKind 0x33)) (dataOf EB13 q) ≡ trailerSays EB14 8 r
+  unfolding enrolmentTotals trailerSays placeIn trailerFront enrolmentTrailer eb14Trailer
   enrolment-kind-3 = result-totals Enrolment q r fits e 2 (omega arith)
 
   -- of kind "7": item 9
-  pub enrolment-kind-7 : sum (failedAs Enrolment q r (OfKind 0x37)) (dataOf EB13 q) ≡ valueOf (part 59 8 (trailerOf EB14 r))
-  unfolding enrolmentTotals
+  pub enrolment-kind-7 : sum (failedAs Enrolment q r (OfKind 0x37)) (dataOf EB13 q) ≡ trailerSays EB14 9 r
+  unfolding enrolmentTotals trailerSays placeIn trailerFront enrolmentTrailer eb14Trailer
   enrolment-kind-7 = result-totals Enrolment q r fits e 3 (omega arith)
+
+-- *Not taken*: all that was not taken is what the result's trailer says
+pub not-taken-in-all :
+    (p : PairKind) (q r : List ℕ) (fits : Bool) → pairBy p q r fits .number ≡ 0 →
+    sum (notTakenAt p q r) (dataOf (requestKind p) q) ≡ failedInAll p r
+not-taken-in-all Enrolment q r fits e = enrolment-not-taken q r fits e
+not-taken-in-all Debit q r fits e = debit-not-taken q r fits e
 
 -- what all requests ask is what the request's trailer says
 asked-value : (p : PairKind) (q : List ℕ) → Meets (requestKind p) q → quantityOf (requestKind p) q (asks p) ≡ askedInAll p q
-unfolding enrolmentTotals eb21Totals
+unfolding enrolmentTotals eb21Totals trailerSays placeIn trailerFront enrolmentTrailer eb13Trailer eb21Trailer
 asked-value Enrolment q m = sym (total-value EB13 q m 0 (omega arith))
 asked-value Debit q m = sym (total-value EB21 q m 2 (omega arith))
 

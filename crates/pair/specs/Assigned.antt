@@ -4,7 +4,9 @@ use mathlib.Core.List.{List}
 use mathlib.Core.Path.{_≡_}
 use Rattle.records.specs.Records.{dataOf}
 use Rattle.reader.specs.Keys.{keyAt}
+use Rattle.layout.specs.Items.{amountOf}
 use Rattle.kinds.specs.declared.of_pairs.PairKind.{PairKind}
+use Rattle.kinds.specs.declared.of_pairs.PairKind.the-variants.{Enrolment, Debit}
 use Rattle.kinds.specs.Pairs.{requestKind, resultKind}
 use Rattle.terms.specs.Same.{requestAt, resultAt, Agree}
 use Rattle.terms.specs.Possible.{Possible}
@@ -26,3 +28,8 @@ pub record Assignment (p : PairKind) (q r : List ℕ) : Type 0 where
   pub to : ℕ → ℕ
   pub distinct : (j l : ℕ) → j < dataOf (resultKind p) r → l < dataOf (resultKind p) r → to j ≡ to l → j ≡ l
   pub met : (j : ℕ) → j < dataOf (resultKind p) r → Met p q r (to j) j
+
+-- what a result record says was not taken: 1, or its amount
+abbrev pub saidNotTaken : PairKind → List ℕ → ℕ
+saidNotTaken Enrolment result = 1
+saidNotTaken Debit result = amountOf result

@@ -4,3 +4,4 @@ pub mod Pairing
 pub mod Assigned
 pub mod First
 pub mod Trailers
+pub mod Lists

@@ -5,7 +5,7 @@ ghost use Prim.Native.Nat.{_+_, _≤_, _<_, _^_};
 ghost use lib.Dec.{eqb};
 ghost use lib.ListN.{length};
 ghost use Rattle.kinds.specs.Kinds.{limit};
-ghost use Rattle.records.specs.Records.{countOf};
+ghost use Rattle.records.specs.Records.{countOf, dataOf};
 ghost use Rattle.records.specs.Quantities.{worth, worthAt, quantityOf};
 use crate::listed;
 use kinds::of_files::Kind;
@@ -45,7 +45,7 @@ fn worth(quantity: Quantity, rec: &[u8]) -> u64
 
 // What data record i + 1 adds to a quantity.
 pub fn worth_at(kind: Kind, file: &[u8], quantity: Quantity, i: usize) -> u64
-    requires { ⌜ i + 1 < countOf kind (now file) ⌝ }
+    requires { ⌜ i < dataOf kind (now file) ⌝ }
     ensures { λ r. ⌜ r ≡ worthAt kind (now (file .entry)) quantity i ⌝ }
     ensures { λ r. ⌜ r < 10 ^ 13 ⌝ }
 {

@@ -1,3 +1,4 @@
 -- Laws about the tables.
 pub mod Tiling
 pub mod Counts
+pub mod Placing

@@ -4,3 +4,4 @@ pub mod Rows
 pub mod Tables
 pub mod Totals
 pub mod Copied
+pub mod Places

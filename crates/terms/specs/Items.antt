@@ -6,6 +6,7 @@ use lib.ListN.{length, getD, take}
 use Rattle.laws.specs.Part.{part, same}
 use Rattle.tables.specs.declared.copied.Copied.{Copied}
 use Rattle.tables.specs.Copied.{noItem, copiedOf}
+use Rattle.tables.specs.Places.{codePlace, datePlace, branchPlace, accountPlace}
 use Rattle.answers.specs.declared.told.Answer.{Answer}
 use Rattle.answers.specs.Answers.{accepted, refusedAt, firstTold}
 use Rattle.kinds.specs.declared.of_pairs.PairKind.{PairKind}
@@ -13,12 +14,9 @@ use Rattle.terms.specs.declared.items.Compared.{Compared}
 use Rattle.terms.specs.declared.items.Compared.the-variants.{Headers, Records}
 use Rattle.kinds.specs.Pairs.{agreed, requestKind}
 
-abbrev item : ℕ → ℕ → ℕ → Copied
-item number start size = record { 0 = number; 1 = start; 2 = size }
-
 -- institution code, date; in debit also header items 6 and 7
 unfoldable pub headerItems : List Copied
-headerItems = item 3 9 10 ∷ item 5 27 6 ∷ item 6 33 7 ∷ item 7 40 16 ∷ []
+headerItems = codePlace ∷ datePlace ∷ branchPlace ∷ accountPlace ∷ []
 
 -- what is compared: of the headers the items that must agree, of the records the copied items
 abbrev pub comparedOf : PairKind → Compared → List Copied
