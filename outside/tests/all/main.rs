@@ -7,6 +7,7 @@ mod compare_post;
 mod compare_walk;
 mod compare_write;
 mod contracts;
+mod items;
 mod itself;
 mod promises;
 mod samples;

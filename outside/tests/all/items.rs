@@ -1,0 +1,476 @@
+//! docs/ITEMS.md and docs/CODES.md say what the library's tables say: every item with its bytes and its rules in
+//! their order, every code with who sets it. A line of either side that is not understood is a panic, so that a new
+//! kind is noticed.
+
+use std::collections::{BTreeMap, BTreeSet};
+use std::path::Path;
+
+fn text(path: &str) -> String {
+    let whole = Path::new(env!("CARGO_MANIFEST_DIR")).join("..").join(path);
+    std::fs::read_to_string(&whole).unwrap_or_else(|_| panic!("no file {path}"))
+}
+
+/// One rule of an item: the bytes it is about, counted from 1, its words, and what is told when it is broken.
+#[derive(Clone, Debug, PartialEq)]
+struct Rule {
+    item: u64,
+    first: u64,
+    last: u64,
+    words: String,
+    told: String,
+}
+
+// The library's side: definitions of tables, as far as tables need them.
+
+/// One clause of a definition: its parameters and its body.
+type Clause = (Vec<String>, Vec<String>);
+
+/// The definitions of one file: a name, and its clauses.
+struct Definitions(BTreeMap<String, Vec<Clause>>);
+
+/// The words of a line of definitions, brackets by themselves.
+fn tokens(line: &str) -> Vec<String> {
+    let spaced = line.replace('(', " ( ").replace(')', " ) ");
+    spaced.split_whitespace().map(str::to_string).collect()
+}
+
+impl Definitions {
+    fn of(text: &str) -> Definitions {
+        let mut all: BTreeMap<String, Vec<Clause>> = BTreeMap::new();
+        let mut current = String::new();
+        for line in text.lines() {
+            let mut words = tokens(line);
+            if words.is_empty() || line.starts_with("--") || line.starts_with("use ") {
+                continue;
+            }
+            if ["abbrev", "unfoldable"].contains(&words[0].as_str()) {
+                let name = if words[1] == "pub" { &words[2] } else { &words[1] };
+                current = name.clone();
+                assert!(all.insert(current.clone(), Vec::new()).is_none(), "defined twice: {line}");
+                continue;
+            }
+            let clauses = all.get_mut(&current).unwrap_or_else(|| panic!("not understood: {line}"));
+            if line.starts_with("    ") {
+                clauses.last_mut().unwrap_or_else(|| panic!("not understood: {line}")).1.append(&mut words);
+                continue;
+            }
+            let equals = words.iter().position(|word| word == "=");
+            let equals = equals.unwrap_or_else(|| panic!("not understood: {line}"));
+            assert_eq!(words[0], current, "not understood: {line}");
+            clauses.push((words[1..equals].to_vec(), words[equals + 1..].to_vec()));
+        }
+        Definitions(all)
+    }
+
+    fn clauses(&self, name: &str) -> &[Clause] {
+        self.0.get(name).unwrap_or_else(|| panic!("not defined: {name}"))
+    }
+
+    /// A definition of one clause.
+    fn only(&self, name: &str) -> &Clause {
+        let [clause] = self.clauses(name) else { panic!("not one clause: {name}") };
+        clause
+    }
+
+    /// The numbers of a list, as codes.
+    fn codes(&self, name: &str) -> Vec<String> {
+        let body = &self.only(name).1;
+        let (numbers, marks): (Vec<_>, Vec<_>) = body.iter().partition(|word| word.starts_with("0x"));
+        assert_eq!(marks.len(), numbers.len() + 1, "not understood: {name}");
+        assert!(marks.iter().all(|word| ["∷", "[]"].contains(&word.as_str())), "not understood: {name}");
+        numbers.iter().map(|word| letters(word)).collect()
+    }
+}
+
+/// What a number in base sixteen says as letters: 0x30303831 is 0081.
+fn letters(word: &str) -> String {
+    let digits = word.strip_prefix("0x").unwrap_or_else(|| panic!("no number: {word}"));
+    let bytes = (0..digits.len()).step_by(2).map(|at| u8::from_str_radix(&digits[at..at + 2], 16));
+    bytes.map(|byte| char::from(byte.unwrap_or_else(|_| panic!("no number: {word}")))).collect()
+}
+
+/// A class or a quantity in the words of docs/ITEMS.md.
+fn in_words(class: &[String], size: u64, least: &str) -> String {
+    let class: Vec<&str> = class.iter().map(String::as_str).collect();
+    let said = match class[..] {
+        ["only", byte] => return format!("\"{}\"", letters(byte).repeat(size as usize)),
+        ["Each", low, high] => return format!("\"{}\" to \"{}\"", letters(low), letters(high)),
+        ["Least"] => return format!("an amount of at least {least} won, unless the type is \"1\""),
+        ["OfKind", byte] => return format!("the number of records whose item 5 is \"{}\"", letters(byte)),
+        ["Marked", byte] => return format!("the number of records marked \"{}\"", letters(byte)),
+        ["AmountsMarked", byte] => {
+            return format!("the sum of item 6 of the records marked \"{}\"", letters(byte))
+        }
+        ["spaces"] => "only spaces",
+        ["zeros"] => "only zeros",
+        ["digits"] => "only digits",
+        ["free"] => "free text",
+        ["passbook"] => "passbook text",
+        ["CodeText"] => "code text",
+        ["Filled"] => "filled code text",
+        ["Owner"] => "code text, filled unless item 5 is \"3\"",
+        ["Institution"] => "\"99\" and eight digits",
+        ["KindName"] => "the kind of the file",
+        ["Date"] => "a real date",
+        ["NameDate"] => "its month and day are those of the file name",
+        ["Serial"] => "the number of the record, 00000001 in the first",
+        ["AsHeader"] => "as in the header",
+        ["NotLater"] => "a real date, not later than the header's",
+        ["Application"] => "\"1\" new, \"3\" cancelled or \"7\" cancelled at will",
+        ["NotZero"] => "not zero",
+        ["Failed"] => "\"N\" and a table code",
+        ["FailedOrPart"] => "\"N\" and a table code, or \"P\" and a table code or four spaces",
+        ["Records"] => "the number of data records",
+        ["Amounts"] => "the sum of item 6 of all data records",
+        _ => panic!("not understood: {class:?}"),
+    };
+    said.to_string()
+}
+
+/// A table that is being read: the definitions, and the words that are left.
+struct Reading<'a> {
+    definitions: &'a Definitions,
+    left: Vec<String>,
+    least: &'a str,
+}
+
+type Given = BTreeMap<String, Vec<Rule>>;
+
+impl Reading<'_> {
+    fn next(&mut self) -> String {
+        assert!(!self.left.is_empty(), "a table ends too early");
+        self.left.remove(0)
+    }
+
+    fn number(&mut self) -> u64 {
+        let word = self.next();
+        word.parse().unwrap_or_else(|_| panic!("no number: {word}"))
+    }
+
+    /// One word, or what stands in brackets.
+    fn group(&mut self) -> Vec<String> {
+        match self.next().as_str() {
+            "(" => {
+                let end = self.left.iter().position(|word| word == ")").expect("a bracket that closes");
+                let inside: Vec<String> = self.left.drain(..=end).collect();
+                inside[..end].to_vec()
+            }
+            word => vec![word.to_string()],
+        }
+    }
+
+    /// The rest of `row ITEM START LENGTH CLASS CODE` or of `total ITEM START LENGTH QUANTITY`.
+    fn rule(&mut self, row: bool) -> Vec<Rule> {
+        let (item, start, size) = (self.number(), self.number(), self.number());
+        let words = in_words(&self.group(), size, self.least);
+        let told =
+            if row { letters(&self.definitions.only(&self.next()).1[0]) } else { "refusal 6".to_string() };
+        let told = if told == "0000" { "refusal 5".to_string() } else { told };
+        vec![Rule { item, first: start + 1, last: start + size, words, told }]
+    }
+
+    /// A part of a table by its name: given by the caller, or defined, with the parts that it is given.
+    fn named(&mut self, name: &str, given: &Given) -> Vec<Rule> {
+        if let Some(rules) = given.get(name) {
+            return rules.clone();
+        }
+        let (parameters, body) = self.definitions.only(name);
+        let values: Vec<Vec<Rule>> = parameters.iter().map(|_| self.part(given)).collect();
+        let inner = parameters.iter().cloned().zip(values).collect();
+        table(self.definitions, body, &inner, self.least)
+    }
+
+    fn part(&mut self, given: &Given) -> Vec<Rule> {
+        match self.next().as_str() {
+            "[]" => Vec::new(),
+            "(" => {
+                let rules = self.joined(given);
+                assert_eq!(self.next(), ")");
+                rules
+            }
+            "row" => self.rule(true),
+            "total" => self.rule(false),
+            name => self.named(name, given),
+        }
+    }
+
+    /// Parts one after the other: a row before a list, and lists joined, are the same here.
+    fn joined(&mut self, given: &Given) -> Vec<Rule> {
+        let mut rules = self.part(given);
+        while self.left.first().is_some_and(|word| ["∷", "++"].contains(&word.as_str())) {
+            self.next();
+            rules.extend(self.part(given));
+        }
+        rules
+    }
+}
+
+fn table(definitions: &Definitions, body: &[String], given: &Given, least: &str) -> Vec<Rule> {
+    let mut reading = Reading { definitions, left: body.to_vec(), least };
+    let rules = reading.joined(given);
+    assert!(reading.left.is_empty(), "not understood: {:?}", reading.left);
+    rules
+}
+
+type Records = BTreeMap<(String, String), Vec<Rule>>;
+
+/// The rules of every record of every kind, the trailer's totals after the other rules of their items.
+fn library(tables: &str, totals: &str, kinds: &str) -> Records {
+    let [tables, totals, kinds] = [tables, totals, kinds].map(Definitions::of);
+    let given = Given::new();
+    let mut records = Records::new();
+    for (of, body) in tables.clauses("rowsOf") {
+        let [kind, role] = &of[..] else { panic!("not understood: rowsOf {of:?}") };
+        let fixed = kinds.clauses("fixedOf").iter().find(|(of, _)| of == std::slice::from_ref(kind));
+        let least =
+            fixed.and_then(|(_, body)| body.last()).unwrap_or_else(|| panic!("no numbers of {kind}"));
+        let mut rules = table(&tables, body, &given, least);
+        if role == "Trailer" {
+            let clause = totals.clauses("totalsOf").iter().find(|(of, _)| of == std::slice::from_ref(kind));
+            let (_, body) = clause.unwrap_or_else(|| panic!("no totals of {kind}"));
+            for total in table(&totals, body, &given, least) {
+                let after = rules.iter().rposition(|rule| rule.item == total.item);
+                rules.insert(after.expect("an item with a total") + 1, total);
+            }
+        }
+        assert!(
+            records.insert((kind.clone(), role.to_lowercase()), rules).is_none(),
+            "twice: {kind} {role}"
+        );
+    }
+    records
+}
+
+// The documents' side.
+
+/// The cells of a row of a table.
+fn cells(line: &str) -> Vec<&str> {
+    let inside = line.strip_prefix("| ").and_then(|line| line.strip_suffix(" |"));
+    inside.unwrap_or_else(|| panic!("not understood: {line}")).split(" | ").collect()
+}
+
+/// `10 to 19`, or `117` alone.
+fn bytes(cell: &str) -> (u64, u64) {
+    let number = |word: &str| word.parse().unwrap_or_else(|_| panic!("no bytes: {cell}"));
+    let (first, last) = cell.split_once(" to ").unwrap_or((cell, cell));
+    (number(first), number(last))
+}
+
+/// The rules of one row as one kind has them; `EB13: ` before a rule is of that kind alone.
+fn rules(row: &[&str], kind: &str, kinds: &[&str]) -> Vec<Rule> {
+    let [item, place, name, said] = row else { panic!("not four cells: {row:?}") };
+    assert!(name.contains(" (") && name.ends_with(')'), "a name in English (and in Korean): {name}");
+    let ((first, last), mut found) = (bytes(place), Vec::new());
+    for rule in said.split("; ") {
+        let (of, rule) = rule.split_once(": ").unwrap_or((kind, rule));
+        assert!(kinds.contains(&of), "no kind of this table: {of}");
+        if of != kind {
+            continue;
+        }
+        let ended = rule.strip_suffix(')').and_then(|rule| rule.rsplit_once(" ("));
+        let (words, told) = ended.unwrap_or_else(|| panic!("not understood: {rule}"));
+        let (words, (first, last)) = match words.split_once(" in bytes ") {
+            Some((words, place)) => (words, bytes(place)),
+            None => (words, (first, last)),
+        };
+        let item = item.parse().unwrap_or_else(|_| panic!("no item: {item}"));
+        found.push(Rule { item, first, last, words: words.to_string(), told: told.to_string() });
+    }
+    assert!(!found.is_empty(), "item {item} has no rule in {kind}");
+    // Where rules are about parts of an item, the parts make up the item.
+    assert_eq!((found[0].first, found[found.len() - 1].last), (first, last), "the bytes of item {item}");
+    found
+}
+
+const TEXTS: [&str; 2] = ["How to look a refusal up", "The words of the rules"];
+const ITEM_ROW: &str = "| Item | Bytes | Name | Rules, each with what is told when it is broken |";
+
+/// The rules of every record, as docs/ITEMS.md has them.
+fn documented(text: &str) -> Records {
+    let mut records = Records::new();
+    let (mut kinds, mut role) = (Vec::new(), "");
+    for line in text.lines() {
+        if let Some(title) = line.strip_prefix("## ") {
+            kinds.clear();
+            if !TEXTS.contains(&title) {
+                let (of, what) =
+                    title.split_once(": ").unwrap_or_else(|| panic!("not understood: {title}"));
+                (kinds, role) = (of.split(" and ").collect(), what);
+            }
+            for kind in &kinds {
+                let key = (kind.to_string(), role.to_string());
+                assert!(records.insert(key, Vec::new()).is_none(), "twice: {title}");
+            }
+        } else if line.starts_with('|') && line != ITEM_ROW && !line.starts_with("|-") {
+            for kind in &kinds {
+                let found = rules(&cells(line), kind, &kinds);
+                records.get_mut(&(kind.to_string(), role.to_string())).expect("its section").extend(found);
+            }
+        }
+    }
+    records
+}
+
+/// What the two say differently, record by record and rule by rule.
+fn differences(library: &Records, documented: &Records) -> Vec<String> {
+    let mut found = Vec::new();
+    for record in library.keys().chain(documented.keys()).collect::<BTreeSet<_>>() {
+        let none = Vec::new();
+        let [ours, theirs] = [library, documented].map(|side| side.get(record).unwrap_or(&none));
+        for at in 0..ours.len().max(theirs.len()) {
+            if ours.get(at) != theirs.get(at) {
+                let say = |rule: Option<&Rule>| match rule {
+                    Some(r) => format!("{} at {} to {}, {} ({})", r.item, r.first, r.last, r.words, r.told),
+                    None => "nothing".to_string(),
+                };
+                let (kind, role) = record;
+                found.push(format!("{kind} {role}: {} | {}", say(ours.get(at)), say(theirs.get(at))));
+                break;
+            }
+        }
+    }
+    found
+}
+
+/// The lists of docs/CODES.md: title, and the first cell of each row.
+fn lists(text: &str) -> Vec<(String, Vec<String>)> {
+    let mut found: Vec<(String, Vec<String>)> = Vec::new();
+    for line in text.lines() {
+        if let Some(title) = line.strip_prefix("## ") {
+            found.push((title.to_string(), Vec::new()));
+        } else if line.starts_with('|') && !line.starts_with("| Code |") && !line.starts_with("|-") {
+            let list = &mut found.last_mut().expect("a title before the rows").1;
+            list.push(cells(line)[0].to_string());
+        }
+    }
+    found
+}
+
+/// The lists that docs/CODES.md must have: the banks', the centre's, and the codes of all rules.
+fn code_lists(codes: &str, records: &Records) -> Vec<(String, Vec<String>)> {
+    let codes = Definitions::of(codes);
+    assert_eq!(codes.only("tableCodes").1, ["bankCodes", "++", "centreCodes"], "who sets codes");
+    let all = records.values().flatten().map(|rule| rule.told.clone());
+    let told: BTreeSet<String> = all.filter(|told| !told.starts_with("refusal ")).collect();
+    vec![
+        ("Set by banks".to_string(), codes.codes("bankCodes")),
+        ("Set by the centre".to_string(), codes.codes("centreCodes")),
+        ("Told by this library of a file".to_string(), told.into_iter().collect()),
+    ]
+}
+
+const TABLES: &str = "crates/tables/specs/Tables.antt";
+
+fn library_with(change: impl Fn(String) -> String) -> Records {
+    let [totals, kinds] = ["crates/tables/specs/Totals.antt", "crates/kinds/specs/Kinds.antt"].map(text);
+    library(&change(text(TABLES)), &totals, &kinds)
+}
+
+fn library_as_it_is() -> Records {
+    library_with(|tables| tables)
+}
+
+/// A text with one place of it changed.
+fn changed(text: &str, from: &str, to: &str) -> String {
+    assert_eq!(text.matches(from).count(), 1, "one place: {from}");
+    text.replace(from, to)
+}
+
+#[test]
+fn every_item_is_documented_as_it_is() {
+    let library = library_as_it_is();
+    let found: usize = library.values().map(Vec::len).sum();
+    assert!(library.len() >= 12 && found >= 169, "only {} records with {found} rules", library.len());
+    assert_eq!(differences(&library, &documented(&text("docs/ITEMS.md"))), Vec::<String>::new());
+}
+
+#[test]
+fn every_code_is_documented_with_who_sets_it() {
+    let lists_there = code_lists(&text("crates/tables/specs/Codes.antt"), &library_as_it_is());
+    assert_eq!(lists_there[0].1.len() + lists_there[1].1.len(), 48);
+    assert_eq!(lists_there, lists(&text("docs/CODES.md")));
+}
+
+/// A changed document is seen, and where.
+#[test]
+fn a_wrong_item_is_seen() {
+    let (library, items) = (library_as_it_is(), text("docs/ITEMS.md"));
+    let seen = |from: &str, to: &str| differences(&library, &documented(&changed(&items, from, to)));
+    let type_row = "| 13 | 117 | debit type (출금형태) | \"0\" to \"6\" (0075); EB21: an amount";
+    // bytes, a code, an item's number, a missing row, a row too many
+    assert_eq!(
+        seen(type_row, &type_row.replace("117", "118")),
+        [
+            "EB21 data: 13 at 117 to 117, \"0\" to \"6\" (0075) | 13 at 118 to 118, \"0\" to \"6\" (0075)",
+            "EB22 data: 13 at 117 to 117, \"0\" to \"6\" (0075) | 13 at 118 to 118, \"0\" to \"6\" (0075)"
+        ]
+    );
+    assert_eq!(seen(type_row, &type_row.replace("0075", "0088")).len(), 2);
+    assert_eq!(seen(type_row, &type_row.replace("| 13 |", "| 14 |")).len(), 2);
+    let filler = "| 13 | 97 | filler (FILLER) | only spaces (0089) |\n";
+    assert_eq!(seen(filler, "").len(), 2);
+    assert_eq!(seen(filler, &filler.repeat(2)).len(), 2);
+    // a rule of one kind alone, a rule's words, refusals 5 and 6, a rule too many, the order of rules
+    assert_eq!(seen("EB21: an amount of at least", "an amount of at least").len(), 1);
+    assert_eq!(seen("at least 140 won,", "at least 139 won,").len(), 1);
+    assert_eq!(seen("EB22: \"N\" and a table code, or", "EB22: \"N\", or").len(), 1);
+    assert_eq!(seen("all data records (refusal 6)", "all data records (refusal 5)").len(), 1);
+    assert_eq!(seen("only digits (0088); not zero (0061)", "only digits (0088)").len(), 2);
+    assert_eq!(seen("only digits (0088); not zero (0061)", "not zero (0061); only digits (0088)").len(), 2);
+    // a whole record
+    assert_eq!(seen("## EB22: trailer", "## EB23: trailer").len(), 2);
+}
+
+/// A changed table of the library is seen: its rows, and a kind that no page has.
+#[test]
+fn a_changed_table_is_seen() {
+    let documented = documented(&text("docs/ITEMS.md"));
+    let seen = |from: &str, to: &str| {
+        differences(&library_with(|tables| changed(&tables, from, to)), &documented).len()
+    };
+    assert_eq!(seen("row 6 42 13 NotZero c0061 ∷", ""), 2);
+    assert_eq!(seen("row 15 129 21 spaces c0089", "row 15 129 21 free c0089"), 2);
+    assert_eq!(seen("row 15 129 21 spaces c0089", "row 15 129 21 spaces c0090"), 2);
+    assert_eq!(seen("row 5 27 6 NameDate c0000", "row 5 27 6 NameDate c0088"), 4);
+    assert_eq!(seen("c0075 = 0x30303735", "c0075 = 0x30303736"), 2);
+    assert_eq!(seen("rowsOf EB22 Trailer = eb22Trailer", "rowsOf EB22 Trailer = eb21Trailer"), 1);
+}
+
+#[test]
+fn a_wrong_code_is_seen() {
+    let (records, codes) = (library_as_it_is(), text("crates/tables/specs/Codes.antt"));
+    let (there, page) = (code_lists(&codes, &records), text("docs/CODES.md"));
+    let row = page.lines().find(|line| line.starts_with("| 0096 |")).expect("a row of 0096");
+    assert_ne!(there, lists(&changed(&page, &format!("{row}\n"), "")));
+    assert_ne!(there, lists(&changed(&page, "| 0096 |", "| 0097 |")));
+    assert_ne!(there, lists(&changed(&page, "## Set by the centre", "## Set by nobody")));
+    assert_ne!(code_lists(&changed(&codes, "0x30303936", "0x30303937"), &records), lists(&page));
+}
+
+#[test]
+#[should_panic(expected = "not understood: [\"Passbook\"]")]
+fn a_class_without_words_is_noticed() {
+    library_with(|tables| changed(&tables, "row 9 73 16 passbook", "row 9 73 16 Passbook"));
+}
+
+#[test]
+#[should_panic(expected = "no numbers of EC21")]
+fn a_new_kind_is_noticed() {
+    library_with(|tables| tables + "rowsOf EC21 Header = debitHeader\n");
+}
+
+#[test]
+#[should_panic(expected = "not understood: something new")]
+fn a_new_sort_of_line_is_noticed() {
+    library_with(|tables| "something new\n".to_string() + &tables);
+}
+
+#[test]
+#[should_panic(expected = "not understood: only spaces")]
+fn a_rule_without_what_is_told_is_noticed() {
+    documented(&changed(
+        &text("docs/ITEMS.md"),
+        "| 8 | 57 to 150 | filler (FILLER) | only spaces (0089) |",
+        "| 8 | 57 to 150 | filler (FILLER) | only spaces |",
+    ));
+}
