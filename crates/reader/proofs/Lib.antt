@@ -6,3 +6,4 @@ pub mod Exact
 pub mod Cut
 pub mod Accepted
 pub mod Marking
+pub mod OneKind

@@ -8,3 +8,4 @@ pub mod Trips
 pub mod Held
 pub mod Again
 pub mod Rewritten
+pub mod NoTwo
