@@ -1,2 +1,3 @@
 // A request file taken apart into what it was written from.
+pub mod storing;
 pub mod taking;

@@ -1,12 +1,11 @@
-// A file taken apart: what was given for it, as parts of the lent bytes.
+// Any file taken apart: what was given for it, as parts of the lent bytes. Of a file that is too short a part is as much of
+// it as is there.
 ghost use mathlib.Core.Path.{_≡_};
-ghost use Prim.Native.Nat.{_+_, _≤_, _<_};
-ghost use lib.ListN.{length};
 ghost use Rattle.laws.specs.Part.{part};
-ghost use Rattle.kinds.specs.Kinds.{fixedOf};
-ghost use Rattle.records.specs.Records.{recordOf, countOf};
+ghost use Rattle.records.specs.Records.{recordOf};
 ghost use Rattle.writer.specs.Writing.{size6, size7};
-ghost use Rattle.writer.specs.Apart.{headIn, bodyAt};
+ghost use Rattle.writer.specs.Apart.{headIn};
+ghost use Rattle.apart.specs.Taking.{bodyOf};
 use kinds::of_files::Fixed;
 use kinds::of_files::Kind;
 use records::listed;
@@ -35,57 +34,59 @@ fn size_7(kind: Kind) -> usize
     }
 }
 
-// A part of record i.
-fn part_of(kind: Kind, file: &[u8], i: usize, start: usize, size: usize) -> &[u8]
-    requires { ⌜ i < countOf kind (now file) ⌝ }
-    requires { ⌜ start + size ≤ fixedOf kind .size ⌝ }
-    ensures { λ r. ⌜ now r ≡ part start size (recordOf kind (now (file .entry)) i) ⌝ }
-    ensures { λ r. ⌜ length (now r) ≡ size ⌝ }
+// The part of s that begins at start and is size bytes long, or what s has of it.
+fn part_of(s: &[u8], start: usize, size: usize) -> &[u8]
+    ensures { λ r. ⌜ now r ≡ part start size (now (s .entry)) ⌝ }
 {
-    parts::part(listed::record_of(kind, file, i), start, size)
+    let left = parts::rest(s, start);
+    if size <= left.len() {
+        return parts::part(left, 0, size);
+    }
+    left
+}
+
+// The header.
+fn header(kind: Kind, file: &[u8]) -> &[u8]
+    ensures { λ r. ⌜ now r ≡ recordOf kind (now (file .entry)) 0 ⌝ }
+{
+    part_of(file, 0, Fixed::size_of(kind))
 }
 
 // The date.
 pub fn date(kind: Kind, file: &[u8]) -> &[u8]
-    requires { ⌜ 1 ≤ countOf kind (now file) ⌝ }
     ensures { λ r. ⌜ now r ≡ headIn kind (now (file .entry)) .date ⌝ }
-    ensures { λ r. ⌜ length (now r) ≡ 6 ⌝ }
 {
-    part_of(kind, file, 0, 27, 6)
+    part_of(header(kind, file), 27, 6)
 }
 
 // The institution code.
 pub fn code(kind: Kind, file: &[u8]) -> &[u8]
-    requires { ⌜ 1 ≤ countOf kind (now file) ⌝ }
     ensures { λ r. ⌜ now r ≡ headIn kind (now (file .entry)) .code ⌝ }
-    ensures { λ r. ⌜ length (now r) ≡ 10 ⌝ }
 {
-    part_of(kind, file, 0, 9, 10)
+    part_of(header(kind, file), 9, 10)
 }
 
 // The header's item 6; nothing in an enrolment.
 pub fn item6(kind: Kind, file: &[u8]) -> &[u8]
-    requires { ⌜ 1 ≤ countOf kind (now file) ⌝ }
     ensures { λ r. ⌜ now r ≡ headIn kind (now (file .entry)) .item6 ⌝ }
-    ensures { λ r. ⌜ length (now r) ≡ size6 kind ⌝ }
 {
-    part_of(kind, file, 0, 33, size_6(kind))
+    part_of(header(kind, file), 33, size_6(kind))
 }
 
 // The header's item 7; nothing in an enrolment.
 pub fn item7(kind: Kind, file: &[u8]) -> &[u8]
-    requires { ⌜ 1 ≤ countOf kind (now file) ⌝ }
     ensures { λ r. ⌜ now r ≡ headIn kind (now (file .entry)) .item7 ⌝ }
-    ensures { λ r. ⌜ length (now r) ≡ size7 kind ⌝ }
 {
-    part_of(kind, file, 0, 40, size_7(kind))
+    part_of(header(kind, file), 40, size_7(kind))
 }
 
-// The body of data record i + 1.
+// The body of data record i + 1; nothing where there is no such record.
 pub fn body(kind: Kind, file: &[u8], i: usize) -> &[u8]
-    requires { ⌜ i + 1 < countOf kind (now file) ⌝ }
-    ensures { λ r. ⌜ now r ≡ bodyAt kind (now (file .entry)) i ⌝ }
-    ensures { λ r. ⌜ length (now r) ≡ fixedOf kind .body ⌝ }
+    ensures { λ r. ⌜ now r ≡ bodyOf kind (now (file .entry)) i ⌝ }
 {
-    part_of(kind, file, i + 1, Fixed::FRONT, Fixed::of(kind).body)
+    if i < listed::data_count(kind, file) {
+        let rec = listed::record_of(kind, file, i + 1);
+        return parts::part(rec, Fixed::FRONT, Fixed::of(kind).body);
+    }
+    parts::part(file, 0, 0)
 }

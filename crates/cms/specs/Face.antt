@@ -1,7 +1,8 @@
--- Answers as numbers: side, number, record, item, code; then what an outcome or a step says.
+-- Answers as numbers: side, number, record, item, code; then what taking apart, an outcome or a step says.
 use Prim.Native.Nat.{ℕ}
 use mathlib.Core.List.{List, [], _∷_, _++_}
 use Rattle.answers.specs.declared.told.Answer.{Answer}
+use Rattle.apart.specs.declared.storing.Taken.{Taken}
 use Rattle.outcomes.specs.declared.cases.Told.{Told}
 use Rattle.outcomes.specs.Outcomes.{fourOf}
 use Rattle.walker.specs.declared.walking.Walked.{Walked}
@@ -9,6 +10,10 @@ use Rattle.walker.specs.Walks.{threeOf}
 
 abbrev pub five : Answer → List ℕ
 five a = a .side ∷ a .number ∷ a .rec ∷ a .item ∷ a .code ∷ []
+
+-- how many bytes the bodies are together follows
+abbrev pub six : Taken → List ℕ
+six t = five (t .answer) ++ (t .size ∷ [])
 
 -- an outcome's case, taken, not taken and code follow
 abbrev pub nine : Told → List ℕ

@@ -1,8 +1,9 @@
 // An answer as the numbers that are lent.
 ghost use mathlib.Core.Path.{_≡_};
 ghost use Rattle.walker.specs.Walks.{threeOf};
-ghost use Rattle.cms.specs.Face.{five, nine, eight};
+ghost use Rattle.cms.specs.Face.{five, six, nine, eight};
 use answers::told::Answer;
+use apart::storing::Taken;
 use outcomes::cases;
 use outcomes::cases::Told;
 use walker::walking::Step;
@@ -15,6 +16,23 @@ pub(crate) fn tell(told: Answer, answer: &mut [u64; 5]) -> u64
 {
     *answer = [told.side, told.number, told.rec, told.item, told.code];
     told.number
+}
+
+// The same with how many bytes the bodies are together.
+pub(crate) fn tell_taken(taken: Taken, answer: &mut [u64; 6]) -> u64
+    ensures { λ r. ⌜ r ≡ taken .answer .number ⌝ }
+    ensures { λ _. ⌜ now (answer .exit) ≡ six taken ⌝ }
+{
+    let said = taken.answer;
+    *answer = [
+        said.side,
+        said.number,
+        said.rec,
+        said.item,
+        said.code,
+        taken.size as u64,
+    ];
+    said.number
 }
 
 // The same with what an outcome says.

@@ -1,16 +1,19 @@
 -- Item 3 of the header.
-use native.Mathlib.Omega.{arith}
-use Rattle.tables.proofs.Tiling.{size-least}
+use mathlib.Core.Path.{_∙_}
+use borrow.Author.Needs.{needs}
 use Rattle.writer.specs.Apart.{headIn}
 use Rattle.apart.proofs.taking.code.Statement.{statement}
 use Rattle.apart.proofs.taking.code.Tie as tie
 
+header-requires : tie.Need-header-requires
+header-requires c κs = search needs
+
 part-of-requires : tie.Need-part-of-requires
-part-of-requires c κs = (c .before .pre, omega (arith, size-least (c .before .args .kind)))
+part-of-requires c κs = search needs
 
 returns : tie.Need-returns
 unfolding headIn
-returns c = c .part-of .ensures
+returns c = c .part-of .ensures ∙ rw (c .before .header .ensures)
 
 pub code-spec : {M : Type 1} → statement M
-code-spec = tie.close (tie.spec part-of-requires returns)
+code-spec = tie.close (tie.spec header-requires part-of-requires returns)

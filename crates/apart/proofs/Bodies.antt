@@ -1,0 +1,78 @@
+-- The bodies of any file: each is as long as its kind says, and so are all together.
+-- Assumes nothing.
+use Prim.Native.Nat.{ℕ, _+_, _-_, _*_, _≤_, _<_}
+use mathlib.Core.List.{List, [], _++_, append-assoc, append-nil}
+use mathlib.Core.Path.{_≡_, sym, _∙_}
+use native.Mathlib.Nat.{le-refl, le-of-eq, le-trans, mul-le-mul, sub-le, div-mul-le-self, suc-mul, zero-mul}
+use native.Mathlib.Numerals.{add-one}
+use native.Mathlib.Omega.{arith}
+use borrow.Author.Tests.{lt-ltb, le-ltb}
+use lib.ListN.{length, take, drop, length-drop, drop-of-length-le}
+use lib.Seq.{take-length, drop-drop}
+use Rattle.laws.specs.Joined.{joined}
+use Rattle.laws.proofs.Joins.{Sized, sized-length, size-below, joined-start, joined-more}
+use Rattle.laws.proofs.Parts.{part-length, rest}
+use Rattle.kinds.specs.declared.of_files.Kind.{Kind}
+use Rattle.kinds.specs.Kinds.{fixedOf}
+use Rattle.records.specs.Records.{recordAt, recordOf, countOf, dataOf}
+use Rattle.records.proofs.Places.{record-inside}
+use Rattle.making.specs.Files.{stored}
+use Rattle.making.proofs.Sizes.{body-size}
+use Rattle.making.proofs.Stores.{store-next}
+use Rattle.writer.specs.Apart.{bodyAt, bodiesIn}
+use Rattle.apart.specs.Taking.{bodyOf}
+
+-- all from a place on, with something copied to its front, is what is stored at the place
+pub copied :
+    (at : ℕ) (x room last : List ℕ) → last ≡ take (length x) x ++ drop (length x) (take (length room - at) (drop at room)) →
+    take at room ++ (last ++ drop (length room - at) (drop at room)) ≡ stored at x room
+copied at x room last e =
+    rw (e, take-length x, rest at room, drop-drop (length x) at room, none, append-nil)
+    (sym (append-assoc (take at room) x (drop (at + length x) room)))
+  where
+    none : drop (length room - at) (drop at room) ≡ []
+    none = drop-of-length-le (drop at room) {i = length room - at} (rw length-drop (le-refl (length room - at)))
+
+module _ (k : Kind) (s : List ℕ) where
+  -- a body is handed out where there is such a record
+  pub body-is : (i : ℕ) → i < dataOf k s → bodyOf k s i ≡ bodyAt k s i
+  unfolding bodyOf
+  body-is i l = rw (lt-ltb i (dataOf k s) l)
+
+  pub body-none : (i : ℕ) → dataOf k s ≤ i → bodyOf k s i ≡ []
+  unfolding bodyOf
+  body-none i h = rw (le-ltb i (dataOf k s) h)
+
+  pub bodies-sized : Sized (bodyAt k s) (fixedOf k .body) (dataOf k s)
+  unfolding bodyAt recordAt
+  bodies-sized i l =
+      part-length 19 (fixedOf k .body) (recordOf k s (i + 1))
+      (rw (part-length ((i + 1) * fixedOf k .size) (fixedOf k .size) s (record-inside k s (i + 1) (omega (arith, l)))) (le-of-eq (body-size k)))
+
+  pub bodies-length : length (bodiesIn k s) ≡ dataOf k s * fixedOf k .body
+  unfolding bodiesIn
+  bodies-length = sized-length (bodyAt k s) (fixedOf k .body) (dataOf k s) bodies-sized
+
+  -- each lies within them
+  pub body-within : (i n : ℕ) → n ≡ dataOf k s → i < n → i * fixedOf k .body + length (bodyOf k s i) ≤ n * fixedOf k .body
+  body-within i n e l = rw (body-is i (rw e at l), bodies-sized i (rw e at l)) (size-below i n (fixedOf k .body) l)
+
+  -- they are no longer than the file
+  pub bodies-within : dataOf k s * fixedOf k .body ≤ length s
+  unfolding countOf
+  bodies-within =
+      le-trans (mul-le-mul (sub-le (countOf k s) 2) (omega (arith, body-size k))) (div-mul-le-self (length s) (fixedOf k .size))
+
+  -- a loop that stores one body behind the other
+  module _ (o : List ℕ) where
+    abbrev pub Stored : ℕ → List ℕ
+    Stored i = joined (bodyAt k s) i ++ drop (i * fixedOf k .body) o
+
+    pub store-start : o ≡ Stored 0
+    store-start = rw (joined-start (bodyAt k s), zero-mul)
+
+    pub store-more : (i : ℕ) → i < dataOf k s → stored (i * fixedOf k .body) (bodyOf k s i) (Stored i) ≡ Stored (i + 1)
+    store-more i l =
+        rw (body-is i l)
+        (store-next (joined (bodyAt k s) i) (bodyAt k s i) o (i * fixedOf k .body) (sized-length (bodyAt k s) (fixedOf k .body) i (λ j h. bodies-sized j (omega arith))) ∙
+        rw (← joined-more (bodyAt k s) i, bodies-sized i l, ← suc-mul i (fixedOf k .body), ← add-one i))

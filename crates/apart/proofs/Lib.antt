@@ -1,0 +1,3 @@
+-- A request file taken apart into lent room, and written again.
+pub mod Bodies
+pub mod Stored

@@ -1,0 +1,2 @@
+-- A request file taken apart into lent room.
+pub mod Taking
