@@ -1,2 +1,3 @@
 -- A request file taken apart into lent room.
 pub mod Taking
+pub mod Says
