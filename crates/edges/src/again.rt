@@ -2,11 +2,10 @@
 ghost use Prim.Native.Nat.{_<_};
 use crate::files;
 use crate::values;
+use apart::storing;
 use apart::taking;
 use kinds::of_files::Fixed;
 use kinds::of_files::Kind;
-use kinds::of_files::LIMIT;
-use records::listed;
 use text::parts;
 use writer::writing;
 
@@ -15,30 +14,26 @@ pub(crate) fn put_bodies(kind: Kind, file: &[u8], n: usize, to: &mut [u8])
     requires { ⌜ n < 100000 ⌝ }
 {
     let size = Fixed::of(kind).body;
-    let count = files::at_most(n + 1, listed::count(kind, file));
     let mut i = 0;
-    while i + 1 < count {
+    while i < n {
         files::put(to, i * size, taking::body(kind, file, i));
         i += 1;
     }
 }
 
-// Whether what the parts of the file write, with n bytes of its bodies, is the file.
-pub(crate) fn same(name: u64, file: &[u8], n: usize) -> bool {
+// Whether what the file is taken apart into writes the file.
+pub(crate) fn same(name: u64, file: &[u8]) -> bool {
     let kind = values::kind(name);
-    if listed::count(kind, file) == 0 {
-        return false;
-    }
     let mut bodies = io::large_buffer();
     let mut room = io::large_buffer();
-    put_bodies(kind, file, LIMIT, &mut bodies);
+    let taken = storing::take_apart(name, file, &mut bodies);
     writing::write(
         name,
         taking::date(kind, file),
         taking::code(kind, file),
         taking::item6(kind, file),
         taking::item7(kind, file),
-        files::first(n, &bodies),
+        files::first(taken.size, &bodies),
         &mut room,
     );
     parts::same(files::first(file.len(), &room), file)

@@ -47,9 +47,9 @@ fn tell_records(kind: Kind, file: &[u8]) {
     }
 }
 
-// Of a file that was written with n bytes of bodies: what reading it says, reading all of it but its last byte, and
-// whether it is the same when it is taken apart and written again.
-fn tell_file(name: u64, file: &[u8], n: usize) {
+// Of a file that was written: what reading it says, reading all of it but its last byte, and whether it is the same when
+// it is taken apart and written again.
+fn tell_file(name: u64, file: &[u8]) {
     told::tell(b" whole", reading::read(name, file));
     if 0 < file.len() {
         told::tell(
@@ -57,7 +57,7 @@ fn tell_file(name: u64, file: &[u8], n: usize) {
             reading::read(name, files::first(file.len() - 1, file)),
         );
     }
-    if again::same(name, file, n) {
+    if again::same(name, file) {
         told::tell_bytes(b" again same");
         return;
     }
@@ -65,14 +65,14 @@ fn tell_file(name: u64, file: &[u8], n: usize) {
 }
 
 // How much of the room was left alone, and what was written into it.
-pub(crate) fn tell(line: &[u8], name: u64, answer: Answer, room: &[u8], n: usize) {
+pub(crate) fn tell(line: &[u8], name: u64, answer: Answer, room: &[u8]) {
     let k = kept(room);
     let file = files::first(room.len() - k, room);
     told::tell(fields::field(1, b' ', line), answer);
     told::tell_bytes(b" kept");
     told::tell_number(k as u64);
     if answer.number == 0 {
-        tell_file(name, file, n);
+        tell_file(name, file);
     }
     told::end();
     if parts::byte(line, 0) == b's' {

@@ -28,7 +28,7 @@ fn write(kind: u64, word: &[u8], bodies: &[u8], room: &mut [u8]) -> Answer {
 // Writes what a line says, and tells what became of the room.
 fn write_into(line: &[u8], name: u64, bodies: &[u8], room: &mut [u8]) {
     let answer = write(name, fields::field(4, b' ', line), bodies, room);
-    rooms::tell(line, name, answer, room, bodies.len());
+    rooms::tell(line, name, answer, room);
 }
 
 // Lends as much room as the line says.

@@ -9,35 +9,23 @@ use Rattle.edges.proofs.again.put_bodies.Statement.{statement}
 use Rattle.edges.proofs.again.put_bodies.Tie as tie
 
 abbrev Inv-loop : tie.InvT-loop
-Inv-loop kind file n to₀ size count i₀ to i = (i ≤ n) × (length to ≡ length to₀)
+Inv-loop kind file n to₀ size i₀ to i = (i ≤ n) × (length to ≡ length to₀)
 
 abbrev μ-loop : tie.MeasureT-loop
-μ-loop kind file n to₀ size count i₀ to i = n - i
+μ-loop kind file n to₀ size i₀ to i = n - i
 
 of-requires : tie.Need-of-requires Inv-loop μ-loop
 of-requires c κs = search needs
 
-add-at-most : tie.Need-add-at-most Inv-loop μ-loop
-add-at-most c = search needs
-
-count-requires : tie.Need-count-requires Inv-loop μ-loop
-count-requires c κs = search needs
-
-at-most-requires : tie.Need-at-most-requires Inv-loop μ-loop
-at-most-requires c κs = search needs
-
 loop-holds : tie.Need-loop-holds Inv-loop μ-loop
 loop-holds c = search needs
-
-add-loop : tie.Need-add-loop Inv-loop μ-loop
-add-loop c = search needs
 
 mul-put : tie.Need-mul-put Inv-loop μ-loop
 mul-put c =
     let l = c .before .before in
-    let p = l .before .before .before .before .before .before in
+    let p = l .before .before .before .before in
     let fits = body-fits (p .args .kind) (l .loop .i) (omega (arith, l .loop .inv .0, p .pre)) in
-    rw (l .before .before .before .of .ensures) (omega (arith, fits))
+    rw (l .before .of .ensures) (omega (arith, fits))
 
 body-requires : tie.Need-body-requires Inv-loop μ-loop
 body-requires c κs = search needs
@@ -67,11 +55,7 @@ put-bodies-spec =
     Inv-loop
     μ-loop
     of-requires
-    add-at-most
-    count-requires
-    at-most-requires
     loop-holds
-    add-loop
     mul-put
     body-requires
     put-requires
