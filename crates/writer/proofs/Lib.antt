@@ -9,3 +9,5 @@ pub mod Held
 pub mod Again
 pub mod Rewritten
 pub mod NoTwo
+pub mod Totals
+pub mod Sums

@@ -1,16 +1,21 @@
 -- What the writer's answers say, and what a file that it wrote is.
-use Prim.Native.Nat.{ℕ, _≤_, _<_}
+use Prim.Native.Nat.{ℕ, _^_, _≤_, _<_}
 use mathlib.Core.Bool.{Bool, true, false, _||_}
 use mathlib.Core.List.{List, _++_}
 use mathlib.Core.Path.{_≡_}
 use lib.Dec.{eqb}
 use lib.ListN.{length, getD, drop}
 use Rattle.kinds.specs.declared.of_files.Kind.{Kind}
+use Rattle.kinds.specs.declared.of_files.Kind.the-variants.{EB21}
 use Rattle.kinds.specs.declared.of_files.Named.the-variants.{Is}
+use Rattle.tables.specs.declared.totals.Quantity.the-variants.{Amounts}
 use Rattle.kinds.specs.Kinds.{fixedOf, limit}
 use Rattle.answers.specs.declared.told.Answer.{Answer}
 use Rattle.answers.specs.Answers.{accepted, refused}
+use Rattle.records.specs.Records.{countOf}
+use Rattle.records.specs.Quantities.{quantityOf}
 use Rattle.reader.specs.Reading.{readAs, readOf}
+use Rattle.reader.specs.Meets.{RowsHold}
 use Rattle.making.specs.Records.{Head, bodyCount}
 use Rattle.making.specs.Files.{fileOf}
 use Rattle.writer.specs.Writing.{requestOf, partsFit, size6, size7, roomAfter}
@@ -57,3 +62,12 @@ pub record Agrees (kind : ℕ) (h : Head) (bodies : List ℕ) (a : Answer) : Typ
   pub k : Kind
   pub named : requestOf kind ≡ Is k
   pub says : a ≡ readOf kind (fileOf k h bodies)
+
+-- 6, which only a debit request is told: nothing else is wrong before it, and the amounts sum to more than 13 digits say
+pub record TooMuch (h : Head) (bodies : List ℕ) (room : ℕ) : Type 0 where
+  pub fits : fitting EB21 h bodies ≡ true
+  pub few : bodyCount EB21 bodies ≤ limit
+  pub enough : length (fileOf EB21 h bodies) ≤ room
+  -- every row of every record of the file to be written holds
+  pub rows : RowsHold EB21 (fileOf EB21 h bodies) (countOf EB21 (fileOf EB21 h bodies))
+  pub past : 10 ^ 13 ≤ quantityOf EB21 (fileOf EB21 h bodies) Amounts
