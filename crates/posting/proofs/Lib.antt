@@ -2,3 +2,4 @@
 pub mod Widths
 pub mod Following
 pub mod Posted
+pub mod Bounds

@@ -1,11 +1,12 @@
 -- The posting program's output for two files, and a lent buffer after it.
-use Prim.Native.Nat.{ℕ, _+_}
+use Prim.Native.Nat.{ℕ, _+_, _*_}
 use mathlib.Core.Bool.{true, cond}
 use mathlib.Core.List.{List, _++_}
 use lib.Dec.{leb, ltb}
 use lib.ListN.{length, drop}
 use Rattle.laws.specs.Joined.{joined}
 use Rattle.kinds.specs.declared.of_files.Kind.the-variants.{EB21}
+use Rattle.kinds.specs.Kinds.{limit}
 use Rattle.answers.specs.declared.told.Answer.{Answer}
 use Rattle.answers.specs.Answers.{refused, refuses, _then_, accepted}
 use Rattle.records.specs.Records.{dataOf}
@@ -18,6 +19,10 @@ use Rattle.posting.specs.Lines.{refusalLine, acceptedLine, requestLine}
 -- the longest file that the program takes
 abbrev pub most : ℕ
 most = 64800
+
+-- room for the longest text: a first line, and a line for each request
+abbrev pub longest : ℕ
+longest = 100 + limit * 80
 
 -- 3 on its side where a file is longer, the request first
 unfoldable pub sizeTells : ℕ → List ℕ → Answer

@@ -6,7 +6,7 @@ ghost use Rattle.laws.specs.Joined.{joined};
 ghost use Rattle.kinds.specs.Kinds.{limit};
 ghost use Rattle.records.specs.Records.{countOf, dataOf};
 ghost use Rattle.matching.specs.Matching.{resultsFor};
-ghost use Rattle.posting.specs.Posting.{sizeTells, postTells, lineAt, acceptedText, postText, postSize, postAfter};
+ghost use Rattle.posting.specs.Posting.{longest, sizeTells, postTells, lineAt, acceptedText, postText, postSize, postAfter};
 ghost use Rattle.posting.specs.Puts.{putAt};
 use crate::lines;
 use crate::puts;
@@ -24,7 +24,7 @@ use records::listed;
 const MOST: usize = 64_800;
 
 // Room for the longest text: a first line, and a line for each request.
-const FRAME: usize = 100 + LIMIT * 80;
+pub const LONGEST: usize = 100 + LIMIT * 80;
 
 // 3 on its side where a file is longer.
 fn size_tells(side: u64, file: &[u8]) -> Answer
@@ -88,10 +88,10 @@ fn put_requests(
 fn put_all(request: &[u8], result: &[u8], results: &[usize], text: &mut [u8]) -> usize
     requires { ⌜ countOf Kind.EB21 (now request) ≤ limit + 2 ⌝ }
     requires { ⌜ now results ≡ resultsFor PairKind.Debit (now request) (now result) ⌝ }
-    requires { ⌜ 100 + limit * 80 ≤ length (now text) ⌝ }
+    requires { ⌜ longest ≤ length (now text) ⌝ }
     ensures { λ r. ⌜ r ≡ length (acceptedText (now (request .entry)) (now (result .entry))) ⌝ }
     ensures { λ _. ⌜ now (text .exit) ≡ putAt 0 (acceptedText (now (request .entry)) (now (result .entry))) (now (text .entry)) ⌝ }
-    ensures { λ r. ⌜ r ≤ 100 + limit * 80 ⌝ }
+    ensures { λ r. ⌜ r ≤ longest ⌝ }
 {
     let n = listed::data_count(Kind::EB21, request);
     let sums = sums::sums_of(PairKind::Debit, request, result, results);
@@ -101,10 +101,10 @@ fn put_all(request: &[u8], result: &[u8], results: &[usize], text: &mut [u8]) ->
 
 // The whole text at the front of a frame that is long enough for every text.
 fn compose(request: &[u8], result: &[u8], frame: &mut [u8]) -> usize
-    requires { ⌜ 100 + limit * 80 ≤ length (now frame) ⌝ }
+    requires { ⌜ longest ≤ length (now frame) ⌝ }
     ensures { λ r. ⌜ r ≡ length (postText (now (request .entry)) (now (result .entry))) ⌝ }
     ensures { λ _. ⌜ now (frame .exit) ≡ putAt 0 (postText (now (request .entry)) (now (result .entry))) (now (frame .entry)) ⌝ }
-    ensures { λ r. ⌜ r ≤ 100 + limit * 80 ⌝ }
+    ensures { λ r. ⌜ r ≤ longest ⌝ }
 {
     let answer = post_tells(request, result);
     if answer.number != 0 {
@@ -120,7 +120,7 @@ pub fn post(request: &[u8], result: &[u8], text: &mut [u8]) -> usize
     ensures { λ _. ⌜ now (text .exit) ≡ postAfter (now (request .entry)) (now (result .entry)) (now (text .entry)) ⌝ }
     ensures { λ r. ⌜ r ≤ length (now (text .exit)) ⌝ }
 {
-    let mut frame = [0u8; FRAME];
+    let mut frame = [0u8; LONGEST];
     let size = compose(request, result, &mut frame);
     if size <= text.len() {
         return puts::put_bytes(text, 0, &frame[..size]);
