@@ -1,0 +1,62 @@
+-- *One answer*: any two outcomes that the contract of an entry point allows are equal: the number that it returns, and what
+-- each list that it may change holds at exit. `Post` is what the contract's `ensures` say in the source.
+-- Assumes nothing.
+use Prim.Native.Nat.{ℕ}
+use mathlib.Core.List.{List, [], _∷_}
+use mathlib.Core.Path.{_≡_, refl}
+use denote.Ref.{now}
+use Rattle.laws.proofs.Answers.{one-answer}
+use Rattle.cms.proofs.read.cms_read.Reads as read
+use Rattle.cms.proofs.write.cms_write.Reads as write
+use Rattle.cms.proofs.pairs.cms_pair.Reads as pair
+use Rattle.cms.proofs.pairs.cms_outcome.Reads as outcome
+use Rattle.cms.proofs.walk.cms_walk.Reads as walk
+use Rattle.cms.proofs.post.cms_post.Reads as post
+
+-- what a caller sees of a call: the number that it returns, and what each list that it may change holds at exit
+pub record Seen : Type 0 where
+  pub returned : ℕ
+  pub lists : List (List ℕ)
+
+abbrev pub sees : ℕ → List (List ℕ) → Seen
+sees r ls = record { returned = r; lists = ls }
+
+-- a contract, at lifetimes, of the arguments, the result and the parameters at exit; and what is seen of the last two
+module _ {K : Type 0} {X R S : K → Type 0} (Post : (κ : K) → X κ → R κ → S κ → Type 0) (seen : (κ : K) → R κ → S κ → Seen) where
+  -- of the same arguments it allows one outcome
+  abbrev pub Alike : Type 0
+  Alike = (κ : K) (x : X κ) (r t : R κ) (s u : S κ) → Post κ x r s → Post κ x t u → seen κ r s ≡ seen κ t u
+
+  -- so it does where it says what is seen
+  alike : (f : (κ : K) → X κ → Seen) → ((κ : K) (x : X κ) (r : R κ) (s : S κ) → Post κ x r s → seen κ r s ≡ f κ x) → Alike
+  alike f says κ x r t s u p q = one-answer (f κ) x (seen κ r s) (seen κ t u) (says κ x r s p) (says κ x t u q)
+
+-- what it says of the number and of each list
+infixr 5 _with_
+_with_ : {r t : ℕ} {ls ms : List (List ℕ)} → r ≡ t → ls ≡ ms → sees r ls ≡ sees t ms
+p with q = λ i. sees (p i) (q i)
+
+infixr 6 _also_
+_also_ : {l m : List ℕ} {ls ms : List (List ℕ)} → l ≡ m → ls ≡ ms → l ∷ ls ≡ m ∷ ms
+p also q = λ i. p i ∷ q i
+
+end : _≡_ {A = List (List ℕ)} [] []
+end = refl
+
+pub read-alike : Alike read.Post (λ κ r s. sees r (now (s .1 .1 .0) ∷ []))
+read-alike = alike read.Post _ _ (λ κ x r s p. p .0 with p .1 also end)
+
+pub write-alike : Alike write.Post (λ κ r s. sees r (now (s .1 .1 .1 .1 .1 .1 .0) ∷ now (s .1 .1 .1 .1 .1 .1 .1 .0) ∷ []))
+write-alike = alike write.Post _ _ (λ κ x r s p. p .0 with p .1 .0 also p .1 .1 also end)
+
+pub pair-alike : Alike pair.Post (λ κ r s. sees r (now (s .1 .1 .1 .0) ∷ now (s .1 .1 .1 .1 .0) ∷ now (s .1 .1 .1 .1 .1 .0) ∷ []))
+pair-alike = alike pair.Post _ _ (λ κ x r s p. p .0 with p .1 .0 also p .1 .1 .0 also p .1 .1 .1 also end)
+
+pub outcome-alike : Alike outcome.Post (λ κ r s. sees r (now (s .1 .1 .1 .1 .0) ∷ []))
+outcome-alike = alike outcome.Post _ _ (λ κ x r s p. p .0 with p .1 also end)
+
+pub walk-alike : Alike walk.Post (λ κ r s. sees r (now (s .1 .1 .1 .0) ∷ []))
+walk-alike = alike walk.Post _ _ (λ κ x r s p. p .0 with p .1 also end)
+
+pub post-alike : Alike post.Post (λ κ r s. sees r (now (s .1 .1 .0) ∷ []))
+post-alike = alike post.Post _ _ (λ κ x r s p. p .0 with p .1 also end)
