@@ -34,8 +34,8 @@ use Rattle.pair.specs.Results.{resultTells, resultsTell}
 use Rattle.pair.specs.Pairing.{roomTells, pairBy, listsFit, pairAs, pairTold}
 use Rattle.outcomes.specs.Outcomes.{failedBy, outcomeAt, asksFor, outcomeAs, outcomeTold}
 use Rattle.outcomes.specs.Samples.{account, payer, passbook, recordFor, requestTotals, requestFile, resultOf, marked, resultTotals, resultFile}
-use Rattle.outcomes.specs.Marked.{Case, ofFile, ofRecord, ofDay, request, ofPair, ofRequest, brokenAccount, cases}
+use Rattle.outcomes.specs.Marked.{Case, ofFile, ofSized, ofRecord, ofDay, request, ofPair, ofRequest, brokenAccount, cases}
 
 pub marked-cases : map (λ (c : Case). c .said) cases ≡ map (λ (c : Case). c .paper) cases
-unfolding least further some none part differ same sum within takes stopsAt front each digits spaces zeros codeText filled digitOf valueTo valueOf digitsOf says wordOf monthDays leapDay daysOf hasDay isDate kindOf bankCodes centreCodes tableCodes codeIs isTableCode headerFront debitHeader dataFront debitData eb21Data eb22Data trailerFront eb21Trailer eb22Trailer eb21Totals eb22Totals among itemsBut debitCopied refuses _then_ refusesAt toldAt firstTold institution failed partly enough meets holds rowTells judgeBy judgeOf recordAt countOf roleOf judgedAt recordsTell worth worthAt quantityOf totalHolds totalTells totalsTell keyAt repeats repeatTold keysTell isWhole lengthTells readAs readOf all code letters headerRest headerFor trailerFor noTotals emptyOn pairOf headerItems agrees itemTells itemsTell hasKey placeOf requestFor resultFor bases baseOf possible partOfOne debitTells askedAt notTakenBy notTakenAt takenAt meetsTell resultTells resultsTell headersTell roomTells pairBy listsFit pairAs pairTold markIn codeIn failedBy outcomeAt asksFor outcomeAs outcomeTold account payer passbook recordFor requestTotals requestFile resultOf marked resultTotals resultFile ofFile ofRecord ofDay request ofPair ofRequest brokenAccount cases
+unfolding least further some none part differ same sum within takes stopsAt front each digits spaces zeros codeText filled digitOf valueTo valueOf digitsOf says wordOf monthDays leapDay daysOf hasDay isDate kindOf bankCodes centreCodes tableCodes codeIs isTableCode headerFront debitHeader dataFront debitData eb21Data eb22Data trailerFront eb21Trailer eb22Trailer eb21Totals eb22Totals among itemsBut debitCopied refuses _then_ refusesAt toldAt firstTold institution failed partly enough meets holds rowTells judgeBy judgeOf recordAt countOf roleOf judgedAt recordsTell worth worthAt quantityOf totalHolds totalTells totalsTell keyAt repeats repeatTold keysTell isWhole lengthTells readAs readOf all code letters headerRest headerFor trailerFor noTotals emptyOn pairOf headerItems agrees itemTells itemsTell hasKey placeOf requestFor resultFor bases baseOf possible partOfOne debitTells askedAt notTakenBy notTakenAt takenAt meetsTell resultTells resultsTell headersTell roomTells pairBy listsFit pairAs pairTold markIn codeIn failedBy outcomeAt asksFor outcomeAs outcomeTold account payer passbook recordFor requestTotals requestFile resultOf marked resultTotals resultFile ofFile ofSized ofRecord ofDay request ofPair ofRequest brokenAccount cases
 marked-cases = refl

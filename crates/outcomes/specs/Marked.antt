@@ -1,10 +1,11 @@
 -- The marked edge cases: for each, what the definitions say and what the paper says.
 use Prim.Native.Nat.{ℕ}
 use mathlib.Core.List.{List, [], _∷_, _++_}
-use lib.ListN.{take}
+use lib.ListN.{length, take}
 use Rattle.numbers.specs.Numbers.{digitsOf}
 use Rattle.kinds.specs.declared.of_files.Kind.the-variants.{EB21}
 use Rattle.answers.specs.declared.told.Answer.{Answer}
+use Rattle.records.specs.Records.{dataOf}
 use Rattle.reader.specs.Reading.{readOf}
 use Rattle.reader.specs.Samples.{all, blanks, emptyOn}
 use Rattle.pair.specs.Pairing.{pairTold}
@@ -26,6 +27,10 @@ nineOf t = fiveOf (t .answer) ++ fourOf (t .outcome)
 -- EB21 files are read: one record with the account, the amount and the type; no record, for a day; any bytes
 unfoldable pub ofFile : List ℕ → List ℕ
 ofFile s = fiveOf (readOf 0x45423231 s)
+
+-- the same with its length and n before it
+unfoldable pub ofSized : List ℕ → List ℕ
+ofSized s = length s ∷ dataOf EB21 s ∷ ofFile s
 
 unfoldable pub ofRecord : List ℕ → ℕ → ℕ → List ℕ
 ofRecord account amount type = ofFile (requestFile account amount type)
@@ -50,7 +55,8 @@ brokenAccount = all (digitsOf 10 1234567890 ∷ blanks 1 ∷ digitsOf 5 12345 �
 abbrev pub good : List ℕ
 good = 0 ∷ 0 ∷ 0 ∷ 0 ∷ 0x30303030 ∷ []
 
--- cases 1 to 12; 9 is "P", then taken 1,000 and not taken 19,000 with the code; 12 is two
+-- cases 1 to 12; 9 is "P", then taken 1,000 and not taken 19,000 with the code; 12 is two: 300 bytes and n = 0, and the
+-- first 150 of them
 unfoldable pub cases : List Case
 cases =
     record { said = ofRecord account 140 0; paper = good } ∷
@@ -64,6 +70,6 @@ cases =
     record { said = ofRequest 0x50 19000; paper = good ++ (2 ∷ 1000 ∷ 19000 ∷ 0x30303231 ∷ []) } ∷
     record { said = ofPair 0x50 19001; paper = 0 ∷ 14 ∷ 1 ∷ 6 ∷ 0x30303030 ∷ [] } ∷
     record { said = ofPair 0x4E 19999; paper = 0 ∷ 14 ∷ 1 ∷ 6 ∷ 0x30303030 ∷ [] } ∷
-    record { said = ofFile (emptyOn EB21 24 229); paper = good } ∷
+    record { said = ofSized (emptyOn EB21 24 229); paper = 300 ∷ 0 ∷ good } ∷
     record { said = ofFile (take 150 (emptyOn EB21 24 229)); paper = 0 ∷ 2 ∷ 0 ∷ 0 ∷ 0x30303030 ∷ [] } ∷
     []
