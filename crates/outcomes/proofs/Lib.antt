@@ -3,3 +3,4 @@ pub mod Outcome
 pub mod Guess
 pub mod Named
 pub mod Marking
+pub mod Parts
