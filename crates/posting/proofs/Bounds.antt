@@ -5,7 +5,7 @@ use mathlib.Core.Bool.{true, false, cond}
 use mathlib.Core.List.{List, [], _∷_, _++_}
 use mathlib.Core.Path.{_≡_, refl, sym, _∙_}
 use mathlib.Core.Logic.{⊎-elim}
-use native.Mathlib.Nat.{le-trans, suc-mul}
+use native.Mathlib.Nat.{le-trans, suc-mul, add-le-add}
 use native.Mathlib.Omega.{arith}
 use lib.Dec.{eqb}
 use lib.ListN.{length, getD, take, drop, length-append}
@@ -21,12 +21,10 @@ use Rattle.answers.specs.declared.told.Answer.{Answer}
 use Rattle.answers.specs.Answers.{refuses}
 use Rattle.answers.proofs.Refusals.{refuses-zero}
 use Rattle.records.specs.Records.{dataOf}
-use Rattle.kinds.specs.declared.of_pairs.PairKind.the-variants.{Debit}
 use Rattle.outcomes.specs.declared.cases.Outcome.{Outcome}
 use Rattle.outcomes.specs.declared.cases.Outcome.the-variants.{None, Whole, Part, Refused}
 use Rattle.outcomes.specs.declared.sums.Sums.{Sums}
 use Rattle.outcomes.specs.Outcomes.{fourOf}
-use Rattle.outcomes.specs.Sums.{sumsOf}
 use Rattle.posting.specs.Decimal.{lastLeft, widthOf}
 use Rattle.posting.specs.Lines.{numberThen, codeLine, acceptedWord, refusedWord, wholeWord, partWord, wordFor, refusalLine, acceptedLine, requestLine}
 use Rattle.posting.specs.Posting.{longest, postTells, lineAt, acceptedText, postText, postSize, postAfter}
@@ -100,8 +98,8 @@ module _ (q r : List ℕ) where
   lines-most : n ≤ limit → length (acceptedText q r) ≤ longest
   unfolding acceptedText lineAt
   lines-most few =
-      rw (length-append (acceptedLine n (sumsOf Debit q r)) (joined (lineAt q r) n))
-      (omega (arith, accepted-most n (sumsOf Debit q r), joined-most (lineAt q r) 80 n (λ i. request-most (i + 1) _), few))
+      let lines : length (joined (lineAt q r) n) ≤ limit * 80 = omega (arith, joined-most (lineAt q r) 80 n (λ i. request-most (i + 1) _)) in
+      rw length-append (add-le-add (accepted-most n _) lines)
 
   -- *The text is bounded*: of any two files it is no longer than `longest`, so a buffer of that size always holds it
   pub text-most : length (postText q r) ≤ longest
