@@ -21,11 +21,11 @@ tools=$(dirname "$(dirname "$(rt doc)")")/on/$machine/toolchain
 RT_JOBS=${RT_JOBS:-4}
 export RT_JOBS
 
-# Runs a program for x86-64 as `rt` does: by the kit's loader over the kit's C library, and where the processor is another
-# one by the kit's emulator, which no variable of the caller's changes.
-run() ( # PROGRAM [WORDS..]
+# Becomes a program for x86-64 as `rt` runs it: by the kit's loader over the kit's C library, and where the processor is
+# another one by the kit's emulator, which no variable of the caller's changes.
+become() { # PROGRAM [WORDS..]
     emulator=$tools/bin/qemu-x86_64
     [ -x "$emulator" ] || emulator=''
     for variable in $(env | sed -n 's/^\(QEMU_[A-Za-z0-9_]*\)=.*/\1/p'); do unset "$variable"; done
     exec ${emulator:+"$emulator"} "$tools/lib/ld-linux-x86-64.so.2" --library-path "$tools/lib" "$@"
-)
+}

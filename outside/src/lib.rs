@@ -19,15 +19,20 @@
 //! For the comparison:
 //!
 //! * [`gen`]: a deterministic generator of inputs, good and bad;
-//! * [`proved`]: the proved library, called through its C face;
+//! * [`proved`]: the proved library, function by function of its C face;
+//! * [`bridge`]: how it is called: by a program in C, which watches it;
+//! * `linked`: the same library linked, on x86-64, to measure its time;
 //! * [`coverage`]: every place and code that the rules can give, counted;
 //! * [`shrink`](mod@shrink): a smaller file that shows the same difference;
 //! * [`settings`]: seed and count, from the environment.
 
+pub mod bridge;
 pub mod chars;
 pub mod coverage;
 pub mod gen;
 pub mod layout;
+#[cfg(target_arch = "x86_64")]
+pub mod linked;
 pub mod model;
 pub mod pair;
 pub mod post;

@@ -1,5 +1,6 @@
 //! What the comparisons share: good files, answers in words, coverage, and what is kept of a difference.
 
+use outside::bridge::{Breach, Said};
 use outside::coverage::{Counter, Entry};
 use outside::gen::{self, Rng};
 use outside::layout::Kind;
@@ -41,6 +42,14 @@ pub fn shown(numbers: &[u64]) -> String {
         five
     } else {
         format!("{five}, then {rest:?}")
+    }
+}
+
+/// What the library said, where all that it writes is numbers, and the answer is lent last.
+pub fn proved_shown(said: &Result<Said, Breach>) -> String {
+    match said {
+        Ok(said) => format!("{} returned; {}", said.returned, shown(&said.as_numbers())),
+        Err(breach) => breach.to_string(),
     }
 }
 

@@ -2,38 +2,50 @@
 //!
 //! `OUTSIDE_SEED` and `OUTSIDE_COUNT` choose the generated files.
 
-use super::common::{check_coverage, good_file, keep, put, shown};
+use super::common::{check_coverage, good_file, keep, proved_shown, put, shown};
+use outside::bridge::{ask, Call, Queue, Said};
 use outside::coverage::{Counter, Operation};
 use outside::gen::{self, Rng};
 use outside::layout::{Kind, PairKind, MOST_RECORDS};
 use outside::shrink::shrink;
-use outside::{proved, read, settings, write, Answer};
+use outside::{read, settings, write, Answer};
 
 // ------------------------------------------------------------------ one file
 
+/// A file, and the kind that it is read as.
+struct Input {
+    kind: u32,
+    file: Vec<u8>,
+}
+
+type Both = Queue<Input>;
+
+fn both() -> Both {
+    Queue::new(report)
+}
+
 /// The answer of both, which must be one.
-fn compare(kind: u32, file: &[u8]) -> Answer {
+fn compare(both: &mut Both, kind: u32, file: &[u8]) -> Answer {
     let told = read(kind, file);
-    if !same_as_proved(&told, kind, file) {
-        report(kind, file);
-    }
+    both.push(Input { kind, file: file.to_vec() }, Call::read(kind, file), said(&told));
     told
 }
 
-/// Every number is the same, and no lent memory was changed but the answer.
-fn same_as_proved(told: &Answer, kind: u32, file: &[u8]) -> bool {
-    proved::try_read(kind, file) == Ok(told.five())
+/// Every number, and nothing that was lent was changed but the answer.
+fn said(told: &Answer) -> Said {
+    Said::new(told.number).numbers(&told.five())
+}
+
+fn differ(kind: u32, file: &[u8]) -> bool {
+    ask(&Call::read(kind, file)) != Ok(said(&read(kind, file)))
 }
 
 /// Fails with the smallest file that shows a difference.
-fn report(kind: u32, file: &[u8]) -> ! {
-    let smallest = shrink(Kind::known(kind), file, |file| !same_as_proved(&read(kind, file), kind, file));
+fn report(Input { kind, file }: &Input) -> ! {
+    let smallest = shrink(Kind::known(*kind), file, |file| differ(*kind, file));
     let path = keep(&format!("differs-as-{kind:08x}"), &smallest);
-    let reference = shown(&read(kind, &smallest).five());
-    let proved = match proved::try_read(kind, &smallest) {
-        Ok(five) => shown(&five),
-        Err(breach) => breach.to_string(),
-    };
+    let reference = shown(&read(*kind, &smallest).five());
+    let proved = proved_shown(&ask(&Call::read(*kind, &smallest)));
     panic!(
         "the two differ on a file of {} bytes (shrunk from {}), read as kind {kind:#010x}\n\
          reference: {reference}\nproved:    {proved}\nthe file:  {}",
@@ -46,6 +58,7 @@ fn report(kind: u32, file: &[u8]) -> ! {
 // ------------------------------------------------------------ generated files
 
 struct Run {
+    both: Both,
     rng: Rng,
     counter: Counter,
     reads: u64,
@@ -57,7 +70,7 @@ struct Run {
 fn generated_files() {
     let (seed, count) = (settings::seed(), settings::count(200_000));
     let counter = Counter::of(|operation| matches!(operation, Operation::Read(_)));
-    let mut run = Run { rng: Rng::new(seed), counter, reads: 0, most_accepted: 0, most: 0 };
+    let mut run = Run { both: both(), rng: Rng::new(seed), counter, reads: 0, most_accepted: 0, most: 0 };
     for _ in 0..count {
         let file = any_file(&mut run.rng);
         run.read_as_each_kind(&file);
@@ -77,7 +90,7 @@ impl Run {
     }
 
     fn read_as(&mut self, number: u32, file: &[u8]) {
-        let told = compare(number, file);
+        let told = compare(&mut self.both, number, file);
         let kind = Kind::known(number);
         let n = kind.map_or(0, |kind| gen::data_records(kind.record_length(), file));
         self.counter.note(Operation::Read(kind), &told, n as u64);
@@ -143,14 +156,14 @@ fn mend(kind: Kind, file: &mut [u8]) {
 
 #[test]
 fn every_byte_at_every_place() {
-    let mut rng = Rng::new(settings::seed());
+    let (mut both, mut rng) = (both(), Rng::new(settings::seed()));
     for kind in Kind::ALL {
         let good = good_file(&mut rng, kind, 2);
         for place in 0..good.len() {
             let mut file = good.clone();
             for byte in 0..=255 {
                 file[place] = byte;
-                compare(kind.number(), &file);
+                compare(&mut both, kind.number(), &file);
             }
         }
     }
@@ -159,7 +172,7 @@ fn every_byte_at_every_place() {
 /// Whichever two items are at fault, both tell of the same one.
 #[test]
 fn every_two_faults() {
-    let mut rng = Rng::new(settings::seed());
+    let (mut both, mut rng) = (both(), Rng::new(settings::seed()));
     for kind in Kind::ALL {
         for good in [good_file(&mut rng, kind, 2), same_records(&mut rng, kind, 2)] {
             let faults = faults(kind, &good, 2);
@@ -168,7 +181,7 @@ fn every_two_faults() {
                     let mut file = good.clone();
                     put(&mut file, one.0, &one.1);
                     put(&mut file, other.0, &other.1);
-                    compare(kind.number(), &file);
+                    compare(&mut both, kind.number(), &file);
                 }
             }
         }
@@ -200,7 +213,7 @@ fn other_texts(item: &[u8]) -> [Vec<u8>; 5] {
 /// Five records with every choice of four payers and of two texts in the key's other item.
 #[test]
 fn every_pattern_of_keys() {
-    let mut rng = Rng::new(settings::seed());
+    let (mut both, mut rng) = (both(), Rng::new(settings::seed()));
     for kind in Kind::ALL {
         let mut file = same_records(&mut rng, kind, 5);
         for pattern in 0..8_usize.pow(5) {
@@ -209,7 +222,7 @@ fn every_pattern_of_keys() {
                 put_key(kind.pair(), &mut file[start..], pattern >> (3 * record) & 7);
             }
             gen::mend_totals(kind, &mut file);
-            assert!([0, 7].contains(&compare(kind.number(), &file).number));
+            assert!([0, 7].contains(&compare(&mut both, kind.number(), &file).number));
         }
     }
 }
@@ -233,15 +246,15 @@ fn put_key(pair: PairKind, record: &mut [u8], choice: usize) {
 
 #[test]
 fn every_number_of_records() {
-    let mut rng = Rng::new(settings::seed());
+    let (mut both, mut rng) = (both(), Rng::new(settings::seed()));
     for kind in Kind::ALL {
         for n in 0..=MOST_RECORDS + 2 {
             let mut file = good_file(&mut rng, kind, n);
             let number = if n > MOST_RECORDS { 3 } else { 0 };
-            assert_eq!(compare(kind.number(), &file), Answer::without_place(number));
-            compare(kind.number(), &file[1..]);
+            assert_eq!(compare(&mut both, kind.number(), &file), Answer::without_place(number));
+            compare(&mut both, kind.number(), &file[1..]);
             file.push(b' ');
-            assert_eq!(compare(kind.number(), &file), Answer::without_place(2));
+            assert_eq!(compare(&mut both, kind.number(), &file), Answer::without_place(2));
         }
     }
 }
@@ -249,7 +262,7 @@ fn every_number_of_records() {
 /// The last data record is also an earlier one.
 #[test]
 fn every_number_of_records_with_a_repeated_key() {
-    let mut rng = Rng::new(settings::seed());
+    let (mut both, mut rng) = (both(), Rng::new(settings::seed()));
     for kind in Kind::ALL {
         let length = kind.record_length();
         for n in 2..=MOST_RECORDS {
@@ -257,25 +270,28 @@ fn every_number_of_records_with_a_repeated_key() {
             let earlier = rng.between(1, n as u64 - 1) as usize;
             file.copy_within(earlier * length..(earlier + 1) * length, n * length);
             mend(kind, &mut file);
-            assert_eq!(compare(kind.number(), &file), Answer::placed(7, n, kind.pair().key_item()));
+            assert_eq!(
+                compare(&mut both, kind.number(), &file),
+                Answer::placed(7, n, kind.pair().key_item())
+            );
         }
     }
 }
 
 #[test]
 fn every_beginning_of_a_file() {
-    let mut rng = Rng::new(settings::seed());
+    let (mut both, mut rng) = (both(), Rng::new(settings::seed()));
     for kind in Kind::ALL {
         let file = good_file(&mut rng, kind, 5);
         for length in 0..file.len() {
-            assert!(!compare(kind.number(), &file[..length]).is_accepted());
+            assert!(!compare(&mut both, kind.number(), &file[..length]).is_accepted());
         }
     }
 }
 
 #[test]
 fn every_header_date() {
-    let mut rng = Rng::new(settings::seed());
+    let (mut both, mut rng) = (both(), Rng::new(settings::seed()));
     for kind in Kind::ALL {
         let mut file = good_file(&mut rng, kind, 0);
         let mut real = 0;
@@ -285,7 +301,7 @@ fn every_header_date() {
             for record in 0..2 {
                 put(&mut file, record * kind.record_length() + NAME_DAY, &date.as_bytes()[2..]);
             }
-            real += u64::from(compare(kind.number(), &file).is_accepted());
+            real += u64::from(compare(&mut both, kind.number(), &file).is_accepted());
         }
         assert_eq!(real, 36_525, "the days of a hundred years");
     }
@@ -293,12 +309,12 @@ fn every_header_date() {
 
 #[test]
 fn every_enrolment_date() {
-    let mut rng = Rng::new(settings::seed());
+    let (mut both, mut rng) = (both(), Rng::new(settings::seed()));
     for kind in [Kind::EB13, Kind::EB14] {
         let mut file = good_file(&mut rng, kind, 1);
         for date in 0..1_000_000 {
             put(&mut file, kind.record_length() + ENROLMENT_DATE, format!("{date:06}").as_bytes());
-            compare(kind.number(), &file);
+            compare(&mut both, kind.number(), &file);
         }
     }
 }
@@ -306,7 +322,7 @@ fn every_enrolment_date() {
 /// Every code of sixteen letters, among them those of all table codes.
 #[test]
 fn every_code_of_a_result() {
-    let mut rng = Rng::new(settings::seed());
+    let (mut both, mut rng) = (both(), Rng::new(settings::seed()));
     let letters = b"0123456789ABZ@a ";
     for (kind, start, marks) in [(Kind::EB14, ENROLMENT_RESULT, b"NPn"), (Kind::EB22, DEBIT_RESULT, b"NPp")]
     {
@@ -316,7 +332,7 @@ fn every_code_of_a_result() {
                 let [a, b, c, d] = [12, 8, 4, 0].map(|shift| letters[code >> shift & 15]);
                 put(&mut file, kind.record_length() + start, &[mark, a, b, c, d]);
                 gen::mend_totals(kind, &mut file);
-                compare(kind.number(), &file);
+                compare(&mut both, kind.number(), &file);
             }
         }
     }
@@ -324,7 +340,7 @@ fn every_code_of_a_result() {
 
 #[test]
 fn small_amounts_of_every_type() {
-    let mut rng = Rng::new(settings::seed());
+    let (mut both, mut rng) = (both(), Rng::new(settings::seed()));
     for kind in [Kind::EB21, Kind::EB22] {
         let mut file = good_file(&mut rng, kind, 1);
         for amount in 0..6_000 {
@@ -332,7 +348,7 @@ fn small_amounts_of_every_type() {
                 put(&mut file, kind.record_length() + DEBIT_AMOUNT, format!("{amount:013}").as_bytes());
                 put(&mut file, kind.record_length() + DEBIT_TYPE, &[debit_type]);
                 gen::mend_totals(kind, &mut file);
-                compare(kind.number(), &file);
+                compare(&mut both, kind.number(), &file);
             }
         }
     }

@@ -3,10 +3,10 @@
 //! `OUTSIDE_SEED` and `OUTSIDE_COUNT` choose the generated pairs.
 
 use super::common::{check_coverage, good_file, keep, put, shown};
+use outside::bridge::{ask, Call, Queue, Said};
 use outside::coverage::{Counter, Operation};
 use outside::gen::{self, Draft, Rng, LARGEST_AMOUNT};
 use outside::layout::{table_codes, Kind, PairKind, MOST_RECORDS};
-use outside::proved::{self, Breach};
 use outside::shrink::shrink;
 use outside::{nine, outcome, pair, settings, Answer};
 use std::collections::BTreeMap;
@@ -36,49 +36,84 @@ fn ours(number: u32, request: &[u8], result: &[u8], asked: &Asked) -> (Answer, V
     }
 }
 
-/// The same of the library.
-fn theirs(number: u32, request: &[u8], result: &[u8], asked: &Asked) -> Result<Vec<u64>, Breach> {
-    match asked.clone() {
-        Asked::Lists(mut taken, mut not_taken) => {
-            let five = proved::try_pair(number, request, result, &mut taken, &mut not_taken)?;
-            Ok([five.to_vec(), taken, not_taken].concat())
-        }
-        Asked::Outcome(record) => Ok(proved::try_outcome(number, request, result, record)?.to_vec()),
+fn call(number: u32, request: &[u8], result: &[u8], asked: &Asked) -> Call {
+    match asked {
+        Asked::Lists(taken, not_taken) => Call::pair(number, request, result, taken, not_taken),
+        Asked::Outcome(record) => Call::outcome(number, request, result, *record),
     }
+}
+
+/// What the library must say: both lists stand before the five.
+fn said(told: &Answer, numbers: &[u64], asked: &Asked) -> Said {
+    match asked {
+        Asked::Lists(..) => Said::new(told.number).numbers(&numbers[5..]).numbers(&numbers[..5]),
+        Asked::Outcome(_) => Said::new(told.number).numbers(numbers),
+    }
+}
+
+/// A request and its result, and what is asked about them.
+struct Input {
+    number: u32,
+    request: Vec<u8>,
+    result: Vec<u8>,
+    asked: Asked,
+}
+
+type Both = Queue<Input>;
+
+fn both() -> Both {
+    Queue::new(report)
 }
 
 /// What both say, which must be one.
-fn compare(number: u32, request: &[u8], result: &[u8], asked: &Asked) -> (Answer, Vec<u64>) {
-    let (told, numbers) = ours(number, request, result, asked);
-    if theirs(number, request, result, asked).as_ref() != Ok(&numbers) {
-        report(number, request, result, asked);
-    }
+fn compare(
+    both: &mut Both,
+    number: u32,
+    request: &[u8],
+    result: &[u8],
+    asked: Asked,
+) -> (Answer, Vec<u64>) {
+    let (told, numbers) = ours(number, request, result, &asked);
+    let (call, said) = (call(number, request, result, &asked), said(&told, &numbers, &asked));
+    both.push(Input { number, request: request.to_vec(), result: result.to_vec(), asked }, call, said);
     (told, numbers)
 }
 
+fn differ(number: u32, request: &[u8], result: &[u8], asked: &Asked) -> bool {
+    let (told, numbers) = ours(number, request, result, asked);
+    ask(&call(number, request, result, asked)) != Ok(said(&told, &numbers, asked))
+}
+
 /// Fails with the smallest files that show a difference.
-fn report(number: u32, request: &[u8], result: &[u8], asked: &Asked) -> ! {
-    let differ = |request: &[u8], result: &[u8], asked: &Asked| {
-        theirs(number, request, result, asked) != Ok(ours(number, request, result, asked).1)
-    };
+fn report(input: &Input) -> ! {
+    let number = input.number;
     let kinds = PairKind::known(number);
-    let (mut request, mut result, mut asked) = (request.to_vec(), result.to_vec(), asked.clone());
+    let (mut request, mut result, mut asked) =
+        (input.request.clone(), input.result.clone(), input.asked.clone());
     loop {
         let before = request.len() + result.len();
-        result = shrink(kinds.map(PairKind::result), &result, |file| differ(&request, file, &asked));
-        request = shrink(kinds.map(PairKind::request), &request, |file| differ(file, &result, &asked));
+        result =
+            shrink(kinds.map(PairKind::result), &result, |file| differ(number, &request, file, &asked));
+        request =
+            shrink(kinds.map(PairKind::request), &request, |file| differ(number, file, &result, &asked));
         if request.len() + result.len() == before {
             break;
         }
     }
     while let Some(shorter) =
-        shorter_lists(&asked).into_iter().find(|lists| differ(&request, &result, lists))
+        shorter_lists(&asked).into_iter().find(|lists| differ(number, &request, &result, lists))
     {
         asked = shorter;
     }
     let reference = shown(&ours(number, &request, &result, &asked).1);
-    let proved = match theirs(number, &request, &result, &asked) {
-        Ok(numbers) => shown(&numbers),
+    let proved = match ask(&call(number, &request, &result, &asked)) {
+        Ok(said) => {
+            let mut numbers = said.as_numbers();
+            if matches!(asked, Asked::Lists(..)) {
+                numbers.rotate_right(5);
+            }
+            format!("{}; {} was returned", shown(&numbers), said.returned)
+        }
         Err(breach) => breach.to_string(),
     };
     panic!(
@@ -106,9 +141,9 @@ fn lists(taken: usize, not_taken: usize) -> Asked {
 }
 
 /// The answer of a pair with lists as long as its requests are many, and both lists.
-fn paired(kinds: PairKind, request: &[u8], result: &[u8]) -> (Answer, Vec<u64>, Vec<u64>) {
+fn paired(both: &mut Both, kinds: PairKind, request: &[u8], result: &[u8]) -> (Answer, Vec<u64>, Vec<u64>) {
     let n = gen::data_records(kinds.record_length(), request);
-    let (told, numbers) = compare(kinds.number(), request, result, &lists(n, n));
+    let (told, numbers) = compare(both, kinds.number(), request, result, lists(n, n));
     (told, numbers[5..5 + n].to_vec(), numbers[5 + n..].to_vec())
 }
 
@@ -126,10 +161,10 @@ const LARGE: [u64; 9] = [
 ];
 
 /// The outcomes of records 0, 1 to n, n + 1 and large ones.
-fn all_outcomes(kinds: PairKind, request: &[u8], result: &[u8]) {
+fn all_outcomes(both: &mut Both, kinds: PairKind, request: &[u8], result: &[u8]) {
     let n = gen::data_records(kinds.record_length(), request) as u64;
     for record in (0..=n + 1).chain(LARGE) {
-        compare(kinds.number(), request, result, &Asked::Outcome(record));
+        compare(both, kinds.number(), request, result, Asked::Outcome(record));
     }
 }
 
@@ -138,7 +173,7 @@ fn all_outcomes(kinds: PairKind, request: &[u8], result: &[u8]) {
 #[test]
 fn generated_pairs() {
     let (seed, count) = (settings::seed(), settings::count(50_000));
-    let mut rng = Rng::new(seed);
+    let (mut both, mut rng) = (both(), Rng::new(seed));
     let mut counter =
         Counter::of(|operation| matches!(operation, Operation::Pair(_) | Operation::Outcome(_)));
     let (mut outcomes, mut most) = (0, 0);
@@ -151,13 +186,13 @@ fn generated_pairs() {
         let records = |told: &Answer| if told.side == 1 { asked } else { answered } as u64;
 
         let (taken, not_taken) = gen::any_lists(&mut rng, asked);
-        let told = compare(number, &request, &result, &Asked::Lists(taken, not_taken)).0;
+        let told = compare(&mut both, number, &request, &result, Asked::Lists(taken, not_taken)).0;
         counter.note(Operation::Pair(kinds), &told, records(&told));
         if told.is_accepted() {
             most = asked.max(most);
         }
         for record in some_records(&mut rng, asked) {
-            let told = compare(number, &request, &result, &Asked::Outcome(record)).0;
+            let told = compare(&mut both, number, &request, &result, Asked::Outcome(record)).0;
             counter.note(Operation::Outcome(kinds), &told, records(&told));
             outcomes += 1;
         }
@@ -180,7 +215,7 @@ fn some_records(rng: &mut Rng, n: usize) -> Vec<u64> {
 
 #[test]
 fn random_bytes() {
-    let mut rng = Rng::new(settings::seed());
+    let (mut both, mut rng) = (both(), Rng::new(settings::seed()));
     for _ in 0..20_000 {
         let kinds = rng.pick(&PairKind::ALL);
         let mut files = [vec![], vec![]];
@@ -189,8 +224,8 @@ fn random_bytes() {
             *file = if rng.once_in(3) { good_file(&mut rng, kind, 1) } else { rng.bytes(length) };
         }
         let [request, result] = files;
-        assert!(!paired(kinds, &request, &result).0.is_accepted());
-        all_outcomes(kinds, &request, &result);
+        assert!(!paired(&mut both, kinds, &request, &result).0.is_accepted());
+        all_outcomes(&mut both, kinds, &request, &result);
     }
 }
 
@@ -242,12 +277,12 @@ fn two_answered(rng: &mut Rng, kinds: PairKind) -> (Draft, Draft) {
 
 #[test]
 fn every_number_of_requests() {
-    let mut rng = Rng::new(settings::seed());
+    let (mut both, mut rng) = (both(), Rng::new(settings::seed()));
     for kinds in PairKind::ALL {
         for n in 0..=MOST_RECORDS + 1 {
             let request = gen::request_of(&mut rng, kinds.request(), n);
             let result = gen::result_of(&mut rng, &request, true).file();
-            let (told, taken, not_taken) = paired(kinds, &request.file(), &result);
+            let (told, taken, not_taken) = paired(&mut both, kinds, &request.file(), &result);
             if n > MOST_RECORDS {
                 assert_eq!(told, Answer::without_place(3).on_side(1));
                 continue;
@@ -258,7 +293,7 @@ fn every_number_of_requests() {
             }
             let n = n as u64;
             for record in [0, 1, n / 2, n, n + 1] {
-                compare(kinds.number(), &request.file(), &result, &Asked::Outcome(record));
+                compare(&mut both, kinds.number(), &request.file(), &result, Asked::Outcome(record));
             }
         }
     }
@@ -275,7 +310,7 @@ fn asked(kinds: PairKind, body: &[u8]) -> u64 {
 /// Four requests answered in every order, each also left out, doubled or beside a stranger's.
 #[test]
 fn every_order_of_results() {
-    let mut rng = Rng::new(settings::seed());
+    let (mut both, mut rng) = (both(), Rng::new(settings::seed()));
     let mut accepted = 0;
     for kinds in PairKind::ALL {
         // The last one is the stranger.
@@ -293,7 +328,7 @@ fn every_order_of_results() {
             for choice in 0..answers.len().pow(length) {
                 let answers: Vec<_> =
                     (0..length).map(|at| answers[choice / answers.len().pow(at) % answers.len()]).collect();
-                let told = meet(&request, &all, &answers);
+                let told = meet(&mut both, &request, &all, &answers);
                 accepted += u64::from(told.is_accepted());
             }
         }
@@ -303,12 +338,12 @@ fn every_order_of_results() {
 }
 
 /// The pair by both, and what the rules say of answers that are all possible.
-fn meet(request: &Draft, all: &Draft, answers: &[(usize, &[u8; 5], u64)]) -> Answer {
+fn meet(both: &mut Both, request: &Draft, all: &Draft, answers: &[(usize, &[u8; 5], u64)]) -> Answer {
     let kinds = request.kind.pair();
     let n = request.bodies.len();
     let result = result_of(all, answers).file();
-    let (told, taken, not_taken) = paired(kinds, &request.file(), &result);
-    all_outcomes(kinds, &request.file(), &result);
+    let (told, taken, not_taken) = paired(both, kinds, &request.file(), &result);
+    all_outcomes(both, kinds, &request.file(), &result);
     let doubled = (0..answers.len()).find(|&j| answers[..j].iter().any(|one| one.0 == answers[j].0));
     let stranger = answers.iter().position(|answer| answer.0 >= n);
     let expected = match (doubled, stranger) {
@@ -345,7 +380,7 @@ fn edges() -> Vec<u64> {
 
 #[test]
 fn amounts_at_every_edge() {
-    let mut rng = Rng::new(settings::seed());
+    let (mut both, mut rng) = (both(), Rng::new(settings::seed()));
     let mut reached = BTreeMap::new();
     for (debit_type, _) in BASES {
         for a in edges() {
@@ -357,7 +392,7 @@ fn amounts_at_every_edge() {
             amounts.dedup();
             for u in amounts.into_iter().filter(|u| *u <= LARGEST_AMOUNT) {
                 for mark in [b"N0021", b"P0021", b"P    "] {
-                    let told = debit_told(&request, a, debit_type, mark, u);
+                    let told = debit_told(&mut both, &request, a, debit_type, mark, u);
                     *reached.entry((told.side, told.number, told.item)).or_insert(0u64) += 1;
                 }
             }
@@ -371,23 +406,23 @@ fn amounts_at_every_edge() {
 
 #[test]
 fn every_small_amount() {
-    let mut rng = Rng::new(settings::seed());
+    let (mut both, mut rng) = (both(), Rng::new(settings::seed()));
     for (debit_type, _) in BASES {
         for a in [1, 2, 139, 140, 141, 142, 280, 281, 1_139] {
             let request = request_of(&mut rng, PairKind::Debit, 1, |_| (a, debit_type));
             for u in 0..=a + 1 {
-                debit_told(&request, a, debit_type, b"N0021", u);
-                debit_told(&request, a, debit_type, b"P0021", u);
+                debit_told(&mut both, &request, a, debit_type, b"N0021", u);
+                debit_told(&mut both, &request, a, debit_type, b"P0021", u);
             }
         }
     }
 }
 
 /// One debit by both, and what the rules say of it.
-fn debit_told(request: &Draft, a: u64, debit_type: u8, mark: &[u8; 5], u: u64) -> Answer {
+fn debit_told(both: &mut Both, request: &Draft, a: u64, debit_type: u8, mark: &[u8; 5], u: u64) -> Answer {
     let result = result_of(request, &[(0, mark, u)]).file();
-    let (told, taken, not_taken) = paired(PairKind::Debit, &request.file(), &result);
-    compare(PairKind::Debit.number(), &request.file(), &result, &Asked::Outcome(1));
+    let (told, taken, not_taken) = paired(both, PairKind::Debit, &request.file(), &result);
+    compare(both, PairKind::Debit.number(), &request.file(), &result, Asked::Outcome(1));
     let base = BASES.iter().find(|base| base.0 == debit_type).map_or(0, |base| base.1);
     let expected = if a < 140 && debit_type != b'1' {
         Answer::broken(1, 13, b"0075").on_side(1)
@@ -410,7 +445,7 @@ fn debit_told(request: &Draft, a: u64, debit_type: u8, mark: &[u8; 5], u: u64) -
 /// Any byte of either file becomes any other; copies of the header and totals follow.
 #[test]
 fn every_byte_of_both_files() {
-    let mut rng = Rng::new(settings::seed());
+    let (mut both, mut rng) = (both(), Rng::new(settings::seed()));
     let mut reached = BTreeMap::new();
     for kinds in PairKind::ALL {
         let (request, result) = two_answered(&mut rng, kinds);
@@ -425,8 +460,14 @@ fn every_byte_of_both_files() {
                     gen::mend_totals(*kind, &mut changed);
                     let mut files = [&good[0].1, &good[1].1];
                     files[side] = &changed;
-                    let told = paired(kinds, files[0], files[1]).0;
-                    compare(kinds.number(), files[0], files[1], &Asked::Outcome(1 + place as u64 % 2));
+                    let told = paired(&mut both, kinds, files[0], files[1]).0;
+                    compare(
+                        &mut both,
+                        kinds.number(),
+                        files[0],
+                        files[1],
+                        Asked::Outcome(1 + place as u64 % 2),
+                    );
                     *reached.entry((told.side, told.number)).or_insert(0u64) += 1;
                 }
             }
@@ -441,7 +482,7 @@ fn every_byte_of_both_files() {
 /// Any two items of the result records become others, each good by itself: the first one is told.
 #[test]
 fn every_two_differences() {
-    let mut rng = Rng::new(settings::seed());
+    let (mut both, mut rng) = (both(), Rng::new(settings::seed()));
     for kinds in PairKind::ALL {
         for _ in 0..40 {
             let (request, good) = two_answered(&mut rng, kinds);
@@ -459,9 +500,9 @@ fn every_two_differences() {
                         let text = other.bodies[record][place].to_vec();
                         put_item(result.kind, &mut result.bodies[record], item, &text);
                     }
-                    let told = paired(kinds, &request.file(), &result.file()).0;
+                    let told = paired(&mut both, kinds, &request.file(), &result.file()).0;
                     assert!(told.side == 2 || [0, 13, 14].contains(&told.number));
-                    compare(kinds.number(), &request.file(), &result.file(), &Asked::Outcome(1));
+                    compare(&mut both, kinds.number(), &request.file(), &result.file(), Asked::Outcome(1));
                 }
             }
         }
@@ -471,7 +512,7 @@ fn every_two_differences() {
 /// Headers that differ in any of their items, before lists that are too short and a stranger's result.
 #[test]
 fn every_difference_of_headers() {
-    let mut rng = Rng::new(settings::seed());
+    let (mut both, mut rng) = (both(), Rng::new(settings::seed()));
     for kinds in PairKind::ALL {
         let items: &[usize] = if kinds == PairKind::Debit { &[3, 5, 6, 7] } else { &[3, 5] };
         for round in 0..200 {
@@ -495,7 +536,7 @@ fn every_difference_of_headers() {
                 }
                 let (request, result) = (request.file(), result.file());
                 for room in [1, 2] {
-                    let told = compare(kinds.number(), &request, &result, &lists(room, 2)).0;
+                    let told = compare(&mut both, kinds.number(), &request, &result, lists(room, 2)).0;
                     let expected = match chosen.first() {
                         Some(&item) => Answer::placed(12, 0, item),
                         None if room < 2 => Answer::without_place(8),
@@ -504,7 +545,7 @@ fn every_difference_of_headers() {
                     };
                     assert_eq!(told, expected);
                 }
-                all_outcomes(kinds, &request, &result);
+                all_outcomes(&mut both, kinds, &request, &result);
             }
         }
     }
@@ -526,13 +567,13 @@ const LATER_YEAR: &[u8; 2] = b"96";
 
 #[test]
 fn every_date_of_a_header() {
-    let mut rng = Rng::new(settings::seed());
+    let (mut both, mut rng) = (both(), Rng::new(settings::seed()));
     for kinds in PairKind::ALL {
         let (request, mut result) = two_answered(&mut rng, kinds);
         for date in 0..1_000_000 {
             if date % 7 == 0 || date % 10_000 < 1_400 && date % 100 < 40 {
                 result.date = format!("{date:06}").into_bytes();
-                paired(kinds, &request.file(), &result.file());
+                paired(&mut both, kinds, &request.file(), &result.file());
             }
         }
     }
@@ -540,7 +581,7 @@ fn every_date_of_a_header() {
 
 #[test]
 fn every_kind_of_file() {
-    let mut rng = Rng::new(settings::seed());
+    let (mut both, mut rng) = (both(), Rng::new(settings::seed()));
     for _ in 0..50 {
         let mut files: Vec<Vec<u8>> = Kind::ALL.iter().map(|kind| good_file(&mut rng, *kind, 2)).collect();
         files.extend(Kind::ALL.iter().map(|kind| good_file(&mut rng, *kind, 0)));
@@ -550,8 +591,8 @@ fn every_kind_of_file() {
         for request in &files {
             for result in &files {
                 for &number in &numbers {
-                    let told = compare(number, request, result, &lists(2, 2)).0;
-                    compare(number, request, result, &Asked::Outcome(1));
+                    let told = compare(&mut both, number, request, result, lists(2, 2)).0;
+                    compare(&mut both, number, request, result, Asked::Outcome(1));
                     if PairKind::known(number).is_none() {
                         assert_eq!(told, Answer::without_place(1));
                     }
@@ -563,24 +604,24 @@ fn every_kind_of_file() {
 
 #[test]
 fn every_beginning_of_both_files() {
-    let mut rng = Rng::new(settings::seed());
+    let (mut both, mut rng) = (both(), Rng::new(settings::seed()));
     for kinds in PairKind::ALL {
         let (request, result) = two_answered(&mut rng, kinds);
         let (request, result) = (request.file(), result.file());
         for length in 0..request.len() {
-            let told = paired(kinds, &request[..length], &result).0;
+            let told = paired(&mut both, kinds, &request[..length], &result).0;
             assert_eq!(told.side, 1);
-            compare(kinds.number(), &request[..length], &result, &Asked::Outcome(1));
-            let told = paired(kinds, &request, &result[..length]).0;
+            compare(&mut both, kinds.number(), &request[..length], &result, Asked::Outcome(1));
+            let told = paired(&mut both, kinds, &request, &result[..length]).0;
             assert_eq!(told.side, 2, "a result that was cut is never taken as paid");
-            compare(kinds.number(), &request, &result[..length], &Asked::Outcome(1));
+            compare(&mut both, kinds.number(), &request, &result[..length], Asked::Outcome(1));
         }
     }
 }
 
 #[test]
 fn every_length_of_the_lists() {
-    let mut rng = Rng::new(settings::seed());
+    let (mut both, mut rng) = (both(), Rng::new(settings::seed()));
     for kinds in PairKind::ALL {
         for n in [0, 1, 2, 3, 7, 40] {
             let request = request_of(&mut rng, kinds, n, |_| (20_000, b'2'));
@@ -589,7 +630,8 @@ fn every_length_of_the_lists() {
             for taken in 0..=n + 2 {
                 for not_taken in 0..=n + 2 {
                     let before = lists(taken, not_taken);
-                    let (told, numbers) = compare(kinds.number(), &request.file(), &result, &before);
+                    let (told, numbers) =
+                        compare(&mut both, kinds.number(), &request.file(), &result, before.clone());
                     let Asked::Lists(mut ones, mut others) = before else { unreachable!() };
                     let room = taken >= n && not_taken >= n;
                     assert_eq!(told, Answer::without_place(if room { 0 } else { 8 }));
@@ -606,14 +648,14 @@ fn every_length_of_the_lists() {
 
 #[test]
 fn every_code_of_an_outcome() {
-    let mut rng = Rng::new(settings::seed());
+    let (mut both, mut rng) = (both(), Rng::new(settings::seed()));
     for kinds in PairKind::ALL {
         let request = request_of(&mut rng, kinds, 3, |_| (20_000, b'2'));
         for code in table_codes().chain([&b"    "[..]]) {
             for mark in *b"NP" {
                 let told: [u8; 5] = [mark, code[0], code[1], code[2], code[3]];
                 let result = result_of(&request, &[(1, &told, if mark == b'N' { 20_000 } else { 1 })]);
-                all_outcomes(kinds, &request.file(), &result.file());
+                all_outcomes(&mut both, kinds, &request.file(), &result.file());
             }
         }
     }

@@ -3,11 +3,11 @@
 //! `OUTSIDE_SEED` and `OUTSIDE_COUNT` choose the generated pairs.
 
 use super::common::{check_coverage, good_file, keep};
+use outside::bridge::{ask, Call, Queue, Said};
 use outside::coverage::{Counter, Operation};
 use outside::gen::{self, Rng};
 use outside::layout::{Kind, PairKind};
 use outside::post::{settle_files, LONGEST_FILE};
-use outside::proved::{self, Breach};
 use outside::shrink::shrink;
 use outside::{post, post_into, settings, Answer};
 
@@ -24,38 +24,55 @@ fn ours(request: &[u8], result: &[u8], room: usize) -> Posted {
     (post_into(request, result, &mut text), text)
 }
 
-fn theirs(request: &[u8], result: &[u8], room: usize) -> Result<Posted, Breach> {
-    let mut text = unwritten(room);
-    Ok((proved::try_post(request, result, &mut text)?, text))
+fn call(request: &[u8], result: &[u8], room: usize) -> Call {
+    Call::post(request, result, &unwritten(room))
+}
+
+fn said((stored, text): &Posted) -> Said {
+    Said::new(*stored).bytes(text)
+}
+
+/// Two files, and the length of the text.
+struct Input {
+    request: Vec<u8>,
+    result: Vec<u8>,
+    room: usize,
+}
+
+type Both = Queue<Input>;
+
+fn both() -> Both {
+    Queue::new(report)
 }
 
 /// What both store in a text of this length, which must be one.
-fn compare_in(request: &[u8], result: &[u8], room: usize) -> Posted {
+fn compare_in(both: &mut Both, request: &[u8], result: &[u8], room: usize) -> Posted {
     let posted = ours(request, result, room);
-    if theirs(request, result, room).as_ref() != Ok(&posted) {
-        report(request, result, room);
-    }
+    let input = Input { request: request.to_vec(), result: result.to_vec(), room };
+    both.push(input, call(request, result, room), said(&posted));
     posted
 }
 
 /// Texts of no length, one too short, exact and too long.
-fn compare(request: &[u8], result: &[u8]) {
+fn compare(both: &mut Both, request: &[u8], result: &[u8]) {
     let exact = post(request, result).len();
     for room in [0, exact - 1, exact, exact + 9] {
-        compare_in(request, result, room);
+        compare_in(both, request, result, room);
     }
 }
 
 /// Fails with the smallest files that show a difference.
-fn report(request: &[u8], result: &[u8], room: usize) -> ! {
-    let differ =
-        |request: &[u8], result: &[u8]| theirs(request, result, room) != Ok(ours(request, result, room));
+fn report(Input { request, result, room }: &Input) -> ! {
+    let differ = |request: &[u8], result: &[u8]| {
+        ask(&call(request, result, *room)) != Ok(said(&ours(request, result, *room)))
+    };
     let result = shrink(Some(Kind::EB22), result, |file| differ(request, file));
     let request = shrink(Some(Kind::EB21), request, |file| differ(file, &result));
-    let said = |posted: &Posted| format!("{} bytes of {}", posted.0, posted.1.escape_ascii());
-    let reference = said(&ours(&request, &result, room));
-    let proved = match theirs(&request, &result, room) {
-        Ok(posted) => said(&posted),
+    let shown = |stored: u64, text: &[u8]| format!("{stored} bytes of {}", text.escape_ascii());
+    let (stored, text) = ours(&request, &result, *room);
+    let reference = shown(stored, &text);
+    let proved = match ask(&call(&request, &result, *room)) {
+        Ok(Said { returned, written }) => shown(returned, &written),
         Err(breach) => breach.to_string(),
     };
     panic!(
@@ -69,11 +86,11 @@ fn report(request: &[u8], result: &[u8], room: usize) -> ! {
 #[test]
 fn generated_pairs() {
     let (seed, count) = (settings::seed(), settings::count(50_000));
-    let mut rng = Rng::new(seed);
+    let (mut both, mut rng) = (both(), Rng::new(seed));
     let mut counter = Counter::of(|operation| *operation == Operation::Post);
     for _ in 0..count {
         let (request, result) = debit_pair(&mut rng);
-        compare(&request, &result);
+        compare(&mut both, &request, &result);
         let told = settle_files(&request, &result).err().unwrap_or(Answer::accepted());
         let file = if told.side == 1 { &request } else { &result };
         counter.note(Operation::Post, &told, gen::data_records(150, file) as u64);
@@ -95,7 +112,7 @@ fn debit_pair(rng: &mut Rng) -> (Vec<u8>, Vec<u8>) {
 /// The length that is too long, with files that would be read otherwise.
 #[test]
 fn the_longest_files() {
-    let mut rng = Rng::new(settings::seed());
+    let (mut both, mut rng) = (both(), Rng::new(settings::seed()));
     let most = [Kind::EB21, Kind::EB22].map(|kind| good_file(&mut rng, kind, 430));
     assert_eq!(most[0].len(), LONGEST_FILE);
     let mut files = vec![vec![], vec![b' '; 150], good_file(&mut rng, Kind::EB21, 0)];
@@ -107,7 +124,7 @@ fn the_longest_files() {
     }
     for request in &files {
         for result in &files {
-            compare(request, result);
+            compare(&mut both, request, result);
         }
     }
 }
@@ -115,24 +132,24 @@ fn the_longest_files() {
 /// Every number of requests, so every width of a line.
 #[test]
 fn every_number_of_requests() {
-    let mut rng = Rng::new(settings::seed());
+    let (mut both, mut rng) = (both(), Rng::new(settings::seed()));
     for n in 0..=431 {
         let request = gen::request_of(&mut rng, Kind::EB21, n);
         let result = gen::result_of(&mut rng, &request, true);
-        compare(&request.file(), &result.file());
+        compare(&mut both, &request.file(), &result.file());
     }
 }
 
 /// Every length of the text about the lengths of its lines.
 #[test]
 fn every_length_of_the_text() {
-    let mut rng = Rng::new(settings::seed());
+    let (mut both, mut rng) = (both(), Rng::new(settings::seed()));
     for n in 0..12 {
         let request = gen::request_of(&mut rng, Kind::EB21, n);
         let result = gen::result_of(&mut rng, &request, n % 2 == 0);
         let exact = post(&request.file(), &result.file()).len();
         for room in 0..exact + 20 {
-            let (stored, text) = compare_in(&request.file(), &result.file(), room);
+            let (stored, text) = compare_in(&mut both, &request.file(), &result.file(), room);
             assert_eq!(stored, if room < exact { 0 } else { exact as u64 });
             assert_eq!(text[stored as usize..], unwritten(room - stored as usize));
         }

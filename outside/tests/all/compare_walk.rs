@@ -2,35 +2,49 @@
 //!
 //! `OUTSIDE_SEED` and `OUTSIDE_COUNT` choose the generated files.
 
-use super::common::{check_coverage, good_file, keep, shown};
+use super::common::{check_coverage, good_file, keep, proved_shown, shown};
+use outside::bridge::{ask, Call, Queue, Said};
 use outside::coverage::{Counter, Operation};
 use outside::gen::{self, Rng};
 use outside::layout::{Kind, MOST_RECORDS};
 use outside::shrink::shrink;
-use outside::{eight, proved, read, settings, walk, Answer, Step};
+use outside::{eight, read, settings, walk, Answer, Step};
+
+/// A file, its kind, and a place in it.
+struct Input {
+    kind: u32,
+    file: Vec<u8>,
+    place: u64,
+}
+
+type Both = Queue<Input>;
+
+fn both() -> Both {
+    Queue::new(report)
+}
 
 /// What both say, which must be one.
-fn compare(kind: u32, file: &[u8], place: u64) -> (Answer, Step) {
-    let said = walk(kind, file, place);
-    if differ(kind, file, place) {
-        report(kind, file, place);
-    }
-    said
+fn compare(both: &mut Both, kind: u32, file: &[u8], place: u64) -> (Answer, Step) {
+    let (told, step) = walk(kind, file, place);
+    let input = Input { kind, file: file.to_vec(), place };
+    both.push(input, Call::walk(kind, file, place), said(&told, &step));
+    (told, step)
+}
+
+fn said(told: &Answer, step: &Step) -> Said {
+    Said::new(told.number).numbers(&eight(told, step))
 }
 
 fn differ(kind: u32, file: &[u8], place: u64) -> bool {
     let (told, step) = walk(kind, file, place);
-    proved::try_walk(kind, file, place) != Ok(eight(&told, &step))
+    ask(&Call::walk(kind, file, place)) != Ok(said(&told, &step))
 }
 
 /// Fails with the smallest file that shows a difference.
-fn report(kind: u32, file: &[u8], place: u64) -> ! {
-    let smallest = shrink(Kind::known(kind), file, |file| differ(kind, file, place));
-    let (told, step) = walk(kind, &smallest, place);
-    let proved = match proved::try_walk(kind, &smallest, place) {
-        Ok(numbers) => shown(&numbers),
-        Err(breach) => breach.to_string(),
-    };
+fn report(Input { kind, file, place }: &Input) -> ! {
+    let smallest = shrink(Kind::known(*kind), file, |file| differ(*kind, file, *place));
+    let (told, step) = walk(*kind, &smallest, *place);
+    let proved = proved_shown(&ask(&Call::walk(*kind, &smallest, *place)));
     panic!(
         "the two differ at place {place} of a file of kind {kind:#010x}\nreference: {}\nproved:    {proved}\n\
          the file:  {}",
@@ -45,7 +59,7 @@ const LARGE: [u64; 8] = [430, 431, 1 << 32, (1 << 32) + 1, (1 << 63) - 1, 1 << 6
 #[test]
 fn generated_files() {
     let (seed, count) = (settings::seed(), settings::count(50_000));
-    let mut rng = Rng::new(seed);
+    let (mut both, mut rng) = (both(), Rng::new(seed));
     let mut counter = Counter::of(|operation| matches!(operation, Operation::Walk(_)));
     let (mut walks, mut records, mut ends) = (0, 0, 0);
     for _ in 0..count {
@@ -57,7 +71,7 @@ fn generated_files() {
             places.extend(0..=n as u64 + 1);
         }
         for place in places {
-            let (told, step) = compare(number, &file, place);
+            let (told, step) = compare(&mut both, number, &file, place);
             counter.note(Operation::Walk(kind), &told, n as u64);
             walks += 1;
             records += u64::from(matches!(step, Step::Record { .. }));
@@ -72,7 +86,7 @@ fn generated_files() {
 /// Record after record of files of every size, then the end each time.
 #[test]
 fn every_number_of_records() {
-    let mut rng = Rng::new(settings::seed());
+    let (mut both, mut rng) = (both(), Rng::new(settings::seed()));
     for kind in Kind::ALL {
         let length = kind.record_length() as u64;
         for n in 0..=MOST_RECORDS + 1 {
@@ -84,7 +98,7 @@ fn every_number_of_records() {
                 (0..=n + 1).chain(LARGE).collect()
             };
             for place in places {
-                let said = compare(kind.number(), &file, place);
+                let said = compare(&mut both, kind.number(), &file, place);
                 let expected = if n > MOST_RECORDS as u64 {
                     (Answer::without_place(3), Step::None)
                 } else if place < n {
@@ -101,12 +115,12 @@ fn every_number_of_records() {
 /// A file that is not accepted is never walked, whatever the place.
 #[test]
 fn every_beginning_of_a_file() {
-    let mut rng = Rng::new(settings::seed());
+    let (mut both, mut rng) = (both(), Rng::new(settings::seed()));
     for kind in Kind::ALL {
         let file = good_file(&mut rng, kind, 3);
         for length in 0..file.len() {
             for place in [0, 1, 2, 3, 4, u64::MAX] {
-                let said = compare(kind.number(), &file[..length], place);
+                let said = compare(&mut both, kind.number(), &file[..length], place);
                 assert_eq!(said, (read(kind.number(), &file[..length]), Step::None));
                 assert!(!said.0.is_accepted());
             }

@@ -3,10 +3,11 @@
 //! `OUTSIDE_SEED` and `OUTSIDE_COUNT` choose the generated inputs.
 
 use super::common::{check_coverage, keep, shown};
+use outside::bridge::{ask, Call, Queue, Said};
 use outside::coverage::{Counter, Operation};
 use outside::gen::{self, Rng, WriteInput};
 use outside::layout::Kind;
-use outside::proved::{self, Breach, Parts};
+use outside::proved::Parts;
 use outside::{settings, write, Answer};
 
 /// The reference's answer, and what it leaves in the room.
@@ -17,25 +18,25 @@ fn ours(input: &WriteInput) -> (Answer, Vec<u8>) {
     (told, room)
 }
 
-/// The same of the library.
-fn theirs(input: &WriteInput) -> Result<([u64; 5], Vec<u8>), Breach> {
-    let mut room = input.room.clone();
-    let WriteInput { kind, date, code, item6, item7, bodies, .. } = input;
-    let five = proved::try_write(*kind, &Parts { date, code, item6, item7, bodies }, &mut room)?;
-    Ok((five, room))
+fn call(input: &WriteInput) -> Call {
+    let WriteInput { kind, date, code, item6, item7, bodies, room } = input;
+    Call::write(*kind, &Parts { date, code, item6, item7, bodies }, room)
+}
+
+fn said((told, room): &(Answer, Vec<u8>)) -> Said {
+    Said::new(told.number).bytes(room).numbers(&told.five())
 }
 
 /// What both answer, which must be one, with the same bytes in the room.
-fn compare(input: &WriteInput) -> Answer {
-    if differ(input) {
-        report(input);
-    }
-    ours(input).0
+fn compare(both: &mut Queue<WriteInput>, input: WriteInput) -> Answer {
+    let ours = ours(&input);
+    let call = call(&input);
+    both.push(input, call, said(&ours));
+    ours.0
 }
 
 fn differ(input: &WriteInput) -> bool {
-    let (told, room) = ours(input);
-    theirs(input) != Ok((told.five(), room))
+    ask(&call(input)) != Ok(said(&ours(input)))
 }
 
 /// Fails with the fewest bodies that show a difference.
@@ -53,9 +54,13 @@ fn report(input: &WriteInput) -> ! {
         }
     }
     let (told, room) = ours(&input);
-    let proved = match theirs(&input) {
-        Ok((five, other)) if other != room => format!("{} and another room", shown(&five)),
-        Ok((five, _)) => shown(&five),
+    let proved = match ask(&call(&input)) {
+        Ok(Said { returned, written }) => {
+            let (other, answer) = written.split_at(room.len());
+            let answer = shown(&Said::new(0).bytes(answer).as_numbers());
+            let another = if other == room { "the same" } else { "another" };
+            format!("{returned} returned; {answer}; {another} room")
+        }
         Err(breach) => breach.to_string(),
     };
     let WriteInput { kind, date, code, item6, item7, .. } = &input;
@@ -75,13 +80,13 @@ fn report(input: &WriteInput) -> ! {
 #[test]
 fn generated_inputs_are_written_alike() {
     let (seed, count) = (settings::seed(), settings::count(50_000));
-    let mut rng = Rng::new(seed);
+    let (mut both, mut rng) = (Queue::new(report), Rng::new(seed));
     let mut counter = Counter::of(|operation| matches!(operation, Operation::Write(_)));
     for _ in 0..count {
         let input = gen::any_write(&mut rng);
-        let told = compare(&input);
         let kind = Kind::known(input.kind);
         let n = kind.map_or(0, |kind| input.bodies.len() / kind.body_length());
+        let told = compare(&mut both, input);
         counter.note(Operation::Write(kind), &told, n as u64);
     }
     println!("seed {seed}, {count} inputs by both");

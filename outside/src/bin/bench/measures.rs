@@ -4,8 +4,8 @@
 
 use outside::gen::{self, Draft, Rng};
 use outside::layout::{Kind, PairKind};
-use outside::proved::{unwatched, Parts};
-use outside::{pair, read, write};
+use outside::proved::Parts;
+use outside::{linked, pair, read, write};
 use std::hint::black_box;
 use std::time::{Duration, Instant};
 
@@ -19,7 +19,7 @@ struct Case {
     measure: fn(&mut Rng, usize) -> [f64; 3],
 }
 
-fn main() {
+pub fn print() {
     let checks = if cfg!(debug_assertions) { "with" } else { "without" };
     println!(
         "the reference was compiled {checks} overflow checks and assertions; microseconds of one call"
@@ -85,10 +85,10 @@ fn request_of(rng: &mut Rng, kind: Kind, n: usize) -> Draft {
 fn reading(rng: &mut Rng, kind: Kind, n: usize) -> [f64; 3] {
     let file = request_of(rng, kind, n).file();
     let kind = kind.number();
-    assert_eq!(unwatched::read(kind, &file), read(kind, &file).five());
-    assert_eq!(unwatched::read(kind, &file)[1], 0);
+    assert_eq!(linked::read(kind, &file), read(kind, &file).five());
+    assert_eq!(linked::read(kind, &file)[1], 0);
     in_turns([
-        &mut || unwatched::read(kind, black_box(&file))[1],
+        &mut || linked::read(kind, black_box(&file))[1],
         &mut || read(kind, black_box(&file)).number,
         &mut || checksum(black_box(&file)),
     ])
@@ -102,11 +102,11 @@ fn writing(rng: &mut Rng, n: usize) -> [f64; 3] {
     let parts = Parts { date, code, item6, item7, bodies: &bodies };
     let kind = Kind::EB21.number();
     let (mut room, mut other) = (vec![0; file.len()], vec![0; file.len()]);
-    let told = unwatched::write(kind, &parts, &mut room);
+    let told = linked::write(kind, &parts, &mut room);
     assert_eq!(told, write(kind, date, code, item6, item7, &bodies, &mut other).five());
     assert!(room == file && other == file);
     in_turns([
-        &mut || unwatched::write(kind, black_box(&parts), &mut room)[1],
+        &mut || linked::write(kind, black_box(&parts), &mut room)[1],
         &mut || write(kind, date, code, item6, item7, black_box(&bodies), &mut other).number,
         &mut || checksum(black_box(&file)),
     ])
@@ -123,11 +123,11 @@ fn pairing(rng: &mut Rng, n: usize) -> [f64; 3] {
     let (request, result) = (request.file(), result.file());
     let kind = Kind::EB21.number();
     let [mut taken, mut not_taken, mut ones, mut others] = [(); 4].map(|()| vec![0; n]);
-    let told = unwatched::pair(kind, &request, &result, &mut taken, &mut not_taken);
+    let told = linked::pair(kind, &request, &result, &mut taken, &mut not_taken);
     assert_eq!(told, pair(kind, &request, &result, &mut ones, &mut others).five());
     assert!(told[1] == 0 && taken == ones && not_taken == others);
     in_turns([
-        &mut || unwatched::pair(kind, black_box(&request), &result, &mut taken, &mut not_taken)[1],
+        &mut || linked::pair(kind, black_box(&request), &result, &mut taken, &mut not_taken)[1],
         &mut || pair(kind, black_box(&request), &result, &mut ones, &mut others).number,
         &mut || checksum(black_box(&request)) ^ checksum(black_box(&result)),
     ])

@@ -1,0 +1,93 @@
+//! The proved library linked into this program, with nothing copied and nothing watched, to measure its time. The archive
+//! is for x86-64.
+
+use crate::proved::Parts;
+
+extern "C" {
+    fn cms_read(kind: u32, file: *const u8, file_length: usize, answer: *mut u64) -> u64;
+    fn cms_write(
+        kind: u32,
+        date: *const u8,
+        date_length: usize,
+        code: *const u8,
+        code_length: usize,
+        item6: *const u8,
+        item6_length: usize,
+        item7: *const u8,
+        item7_length: usize,
+        bodies: *const u8,
+        bodies_length: usize,
+        room: *mut u8,
+        room_length: usize,
+        answer: *mut u64,
+    ) -> u64;
+    fn cms_pair(
+        pair: u32,
+        request: *const u8,
+        request_length: usize,
+        result: *const u8,
+        result_length: usize,
+        taken: *mut u64,
+        taken_length: usize,
+        not_taken: *mut u64,
+        not_taken_length: usize,
+        answer: *mut u64,
+    ) -> u64;
+}
+
+pub fn read(kind: u32, file: &[u8]) -> [u64; 5] {
+    let mut answer = [0; 5];
+    // Safe: each pointer is good for the length that stands beside it, till the call returns.
+    unsafe { cms_read(kind, file.as_ptr(), file.len(), answer.as_mut_ptr()) };
+    answer
+}
+
+pub fn write(kind: u32, parts: &Parts, room: &mut [u8]) -> [u64; 5] {
+    let mut answer = [0; 5];
+    // Safe: each pointer is good for the length that stands beside it, till the call returns.
+    unsafe {
+        cms_write(
+            kind,
+            parts.date.as_ptr(),
+            parts.date.len(),
+            parts.code.as_ptr(),
+            parts.code.len(),
+            parts.item6.as_ptr(),
+            parts.item6.len(),
+            parts.item7.as_ptr(),
+            parts.item7.len(),
+            parts.bodies.as_ptr(),
+            parts.bodies.len(),
+            room.as_mut_ptr(),
+            room.len(),
+            answer.as_mut_ptr(),
+        )
+    };
+    answer
+}
+
+pub fn pair(
+    pair: u32,
+    request: &[u8],
+    result: &[u8],
+    taken: &mut [u64],
+    not_taken: &mut [u64],
+) -> [u64; 5] {
+    let mut answer = [0; 5];
+    // Safe: each pointer is good for the length that stands beside it, till the call returns.
+    unsafe {
+        cms_pair(
+            pair,
+            request.as_ptr(),
+            request.len(),
+            result.as_ptr(),
+            result.len(),
+            taken.as_mut_ptr(),
+            taken.len(),
+            not_taken.as_mut_ptr(),
+            not_taken.len(),
+            answer.as_mut_ptr(),
+        )
+    };
+    answer
+}
