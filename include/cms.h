@@ -46,6 +46,14 @@ uint64_t cms_write(uint32_t kind, const uint8_t *date, size_t date_length, const
                    const uint8_t *bodies, size_t bodies_length, uint8_t *room, size_t room_length,
                    uint64_t answer[5]);
 
+/* Takes a request file (EB13 or EB21; another kind is 1) apart. It answers as cms_read, and then 8 where the bodies have
+ * no room for all. On success they hold the data records without their items 1 to 3, one behind the other as cms_write
+ * takes them, and bytes past these are unchanged. The other parts for cms_write stand in the file, counted from 0: the
+ * date at bytes 27 to 32, the code at 9 to 18, for EB21 item 6 at 33 to 39 and item 7 at 40 to 55. After the five:
+ *   answer[5] length  of all bodies together; 0 when refused */
+uint64_t cms_apart(uint32_t kind, const uint8_t *file, size_t file_length, uint8_t *bodies, size_t bodies_length,
+                   uint64_t answer[6]);
+
 /* Pairs a request with its result, which lists only failures. On success the lists hold what was taken and what was
  * not of each request, in file order, in won (for enrolment 1 in one of them), and places past the last request are
  * unchanged. Each list must have a place for every request. */

@@ -17,7 +17,7 @@
 #include <sys/mman.h>
 #include <unistd.h>
 
-enum { READ, WRITE, PAIR, OUTCOME, WALK, POST, TOUCH };
+enum { READ, WRITE, PAIR, OUTCOME, WALK, POST, APART, TOUCH };
 
 #define THERE UINT64_C(0x636d735f66616365)
 
@@ -197,6 +197,11 @@ static uint64_t called(void) {
     case POST: {
         const struct lent *request = slice(), *result = slice(), *text = to_write(slice());
         return cms_post(request->start, request->length, result->start, result->length, text->start, text->length);
+    }
+    case APART: {
+        uint32_t kind = (uint32_t)number();
+        const struct lent *file = slice(), *bodies = to_write(slice());
+        return cms_apart(kind, file->start, file->length, bodies->start, bodies->length, an_answer(6));
     }
     case TOUCH: { /* Tries the watch: reads the byte at a place from a slice's start, and writes it when told a number. */
         const struct lent *one = slice();

@@ -329,7 +329,7 @@ impl<T> Drop for Queue<T> {
 mod tests {
     use super::*;
 
-    const TOUCH: Function = Function { number: 6, lent: &["the slice"] };
+    const TOUCH: Function = Function { number: 7, lent: &["the slice"] };
 
     /// The bridge itself touches the byte at this place of a slice, and writes it unless `with` is 0.
     fn touch(length: usize, place: i64, with: u8) -> Call {

@@ -15,6 +15,7 @@ pub enum Operation {
     Read(Option<Kind>),
     Walk(Option<Kind>),
     Write(Option<Kind>),
+    Apart(Option<Kind>),
     Pair(Option<PairKind>),
     Outcome(Option<PairKind>),
     Post,
@@ -329,6 +330,13 @@ pub fn all() -> Vec<Entry> {
     list.placeless(Operation::Read(None), 0, &[1]);
     list.placeless(Operation::Walk(None), 0, &[1]);
     list.writing();
+    for kind in [Kind::EB13, Kind::EB21] {
+        list.placeless(Operation::Apart(Some(kind)), 0, &[0, 2, 3, 8]);
+        list.reading(Operation::Apart(Some(kind)), 0, kind);
+    }
+    for other in [Some(Kind::EB14), Some(Kind::EB22), None] {
+        list.placeless(Operation::Apart(other), 0, &[1]);
+    }
     for pair in PairKind::ALL {
         let lent = Operation::Pair(Some(pair));
         list.placeless(lent, 0, &[0, 8]);

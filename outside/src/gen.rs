@@ -1364,12 +1364,30 @@ fn any_room(rng: &mut Rng, kind: Kind, bodies: usize) -> Vec<u8> {
         6..=9 => exact + rng.index(400),
         _ => exact,
     };
+    any_memory(rng, length)
+}
+
+/// Memory for the bodies of a file that is too short, exact or too long.
+pub fn any_bodies(rng: &mut Rng, kind: Option<Kind>, file: &[u8]) -> Vec<u8> {
+    let exact = kind.map_or(0, |kind| data_records(kind.record_length(), file) * kind.body_length());
+    let length = match rng.below(20) {
+        0 => exact.saturating_sub(1),
+        1 => rng.index(exact + 1),
+        2 => 0,
+        3..=5 => exact + 1,
+        6..=9 => exact + rng.index(400),
+        _ => exact,
+    };
+    any_memory(rng, length)
+}
+
+fn any_memory(rng: &mut Rng, length: usize) -> Vec<u8> {
     let fill = rng.byte();
-    let mut room = vec![fill; length];
-    for byte in room.iter_mut().step_by(7) {
+    let mut memory = vec![fill; length];
+    for byte in memory.iter_mut().step_by(7) {
         *byte = rng.byte();
     }
-    room
+    memory
 }
 
 /// The two lists, for n requests: mostly long enough, each by itself.

@@ -12,6 +12,7 @@
 //! * [`layout`]: file kinds, pair kinds, item lengths, table codes;
 //! * [`read`](mod@read): one file is read;
 //! * [`write`](mod@write): one request file is written;
+//! * [`apart`](mod@apart): one request file is taken apart;
 //! * [`pair`](mod@pair): a request meets its result, and one request's outcome;
 //! * [`walk`](mod@walk): record k + 1 of a file, or the end;
 //! * [`post`](mod@post): the posting program's output.
@@ -26,6 +27,7 @@
 //! * [`shrink`](mod@shrink): a smaller file that shows the same difference;
 //! * [`settings`]: seed and count, from the environment.
 
+pub mod apart;
 pub mod bridge;
 pub mod chars;
 pub mod coverage;
@@ -43,7 +45,8 @@ pub mod shrink;
 pub mod walk;
 pub mod write;
 
-pub use model::{eight, nine, Answer, Outcome, Step};
+pub use apart::apart;
+pub use model::{eight, nine, six, Answer, Outcome, Step};
 pub use pair::{outcome, pair};
 pub use post::{post, post_into};
 pub use read::read;

@@ -121,6 +121,12 @@ pub enum Step {
     End,
 }
 
+/// The six numbers of `cms_apart`.
+pub fn six(answer: &Answer, length: u64) -> [u64; 6] {
+    let [side, number, record, item, code] = answer.five();
+    [side, number, record, item, code, length]
+}
+
 /// The nine numbers of `cms_outcome`.
 pub fn nine(answer: &Answer, outcome: &Outcome) -> [u64; 9] {
     let [side, number, record, item, code] = answer.five();

@@ -21,6 +21,7 @@ const PAIR: Function = Function {
 };
 const OUTCOME: Function = Function { number: 3, lent: &["the request", "the result", "the answer"] };
 const WALK: Function = Function { number: 4, lent: &["the file", "the answer"] };
+const APART: Function = Function { number: 6, lent: &["the file", "the bodies", "the answer"] };
 const POST: Function = Function { number: 5, lent: &["the request", "the result", "the text"] };
 
 /// What a file is written from.
@@ -56,6 +57,10 @@ impl Call {
 
     pub fn walk(kind: u32, file: &[u8], place: u64) -> Call {
         Call::of(&WALK).number(kind.into()).slice(file).number(place).answer(8)
+    }
+
+    pub fn apart(kind: u32, file: &[u8], bodies: &[u8]) -> Call {
+        Call::of(&APART).number(kind.into()).slice(file).room(bodies).answer(6)
     }
 
     pub fn post(request: &[u8], result: &[u8], text: &[u8]) -> Call {
@@ -99,6 +104,13 @@ pub fn outcome(pair: u32, request: &[u8], result: &[u8], record: u64) -> [u64; 9
 /// The answer of the proved walk: the five, then case, start, length.
 pub fn walk(kind: u32, file: &[u8], place: u64) -> [u64; 8] {
     kept(ask(&Call::walk(kind, file, place)).and_then(|said| told(&said)))
+}
+
+/// The answer of the proved taking apart: the five, then the length of all bodies. It changes the bodies as its face says.
+pub fn apart(kind: u32, file: &[u8], bodies: &mut [u8]) -> [u64; 6] {
+    let said = kept(ask(&Call::apart(kind, file, bodies)));
+    bodies.copy_from_slice(&said.written[..bodies.len()]);
+    kept(told(&said))
 }
 
 /// How many bytes of the text are the proved program's output, which changes the text as its face says.

@@ -8,7 +8,9 @@ use outside::coverage::{Counter, Entry, Operation};
 use outside::gen::{self, Rng};
 use outside::layout::{is_table_code, Kind, PairKind};
 use outside::settings;
-use outside::{eight, nine, outcome, pair, post, post_into, read, walk, write, Answer, Outcome, Step};
+use outside::{
+    apart, eight, nine, outcome, pair, post, post_into, read, walk, write, Answer, Outcome, Step,
+};
 
 // ------------------------------------------------------------------- builders
 // Written with Rust's padding, without any help from the crate.
@@ -1184,6 +1186,7 @@ impl Run {
         self.counter.note(Operation::Read(known), &told, n as u64);
         self.note_0075(known, &file, &told);
         self.check_walk(kind, &file, &told, n);
+        self.check_apart(kind, &file, &told, n);
         if told.is_accepted() {
             let kind = known.expect("an accepted file has a kind");
             self.seen.accepted_files += 1;
@@ -1226,6 +1229,28 @@ impl Run {
                     self.seen.ends += 1;
                 }
             }
+        }
+    }
+
+    /// Taking apart answers as reading, but for results and for memory that is too short.
+    fn check_apart(&mut self, kind: u32, file: &[u8], told: &Answer, n: usize) {
+        let known = Kind::known(kind);
+        let before = gen::any_bodies(&mut self.rng, known, file);
+        let mut bodies = before.clone();
+        let (answer, length) = apart(kind, file, &mut bodies);
+        self.counter.note(Operation::Apart(known), &answer, n as u64);
+        let all = known.map_or(0, |kind| n * kind.body_length());
+        let expected = match known {
+            Some(kind) if !kind.is_request() => Answer::without_place(1),
+            Some(_) if told.is_accepted() && before.len() < all => Answer::without_place(8),
+            _ => *told,
+        };
+        assert_eq!(answer, expected);
+        if answer.is_accepted() {
+            assert_eq!(length, all as u64);
+            assert_eq!(bodies[all..], before[all..], "bytes past the bodies");
+        } else {
+            assert_eq!((length, bodies), (0, before), "a refusal");
         }
     }
 
@@ -1439,8 +1464,8 @@ impl Run {
 /// An accepted request file, taken apart and written again, is the same.
 fn check_rewriting(kind: Kind, file: &[u8]) {
     let length = kind.record_length();
-    let bodies: Vec<u8> =
-        file[length..file.len() - length].chunks(length).flat_map(|record| record[19..].to_vec()).collect();
+    let mut bodies = vec![0; (file.len() / length - 2) * kind.body_length()];
+    assert_eq!(apart(kind.number(), file, &mut bodies), (accepted(), bodies.len() as u64));
     let (item6, item7) = match kind.pair() {
         PairKind::Enrolment => (&file[..0], &file[..0]),
         PairKind::Debit => (&file[33..40], &file[40..56]),

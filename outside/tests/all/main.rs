@@ -2,6 +2,7 @@
 
 mod common;
 mod compare;
+mod compare_apart;
 mod compare_pair;
 mod compare_post;
 mod compare_walk;
