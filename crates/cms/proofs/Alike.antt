@@ -12,6 +12,7 @@ use Rattle.cms.proofs.pairs.cms_pair.Reads as pair
 use Rattle.cms.proofs.pairs.cms_outcome.Reads as outcome
 use Rattle.cms.proofs.walk.cms_walk.Reads as walk
 use Rattle.cms.proofs.post.cms_post.Reads as post
+use Rattle.cms.proofs.taking.cms_apart.Reads as apart
 
 -- what a caller sees of a call: the number that it returns, and what each list that it may change holds at exit
 pub record Seen : Type 0 where
@@ -60,3 +61,6 @@ walk-alike = alike walk.Post _ _ (λ κ x r s p. p .0 with p .1 also end)
 
 pub post-alike : Alike post.Post (λ κ r s. sees r (now (s .1 .1 .0) ∷ []))
 post-alike = alike post.Post _ _ (λ κ x r s p. p .0 with p .1 also end)
+
+pub apart-alike : Alike apart.Post (λ κ r s. sees r (now (s .1 .1 .0) ∷ now (s .1 .1 .1 .0) ∷ []))
+apart-alike = alike apart.Post _ _ (λ κ x r s p. p .0 with p .1 .0 also p .1 .1 also end)

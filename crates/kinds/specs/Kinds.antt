@@ -12,6 +12,10 @@ use Rattle.kinds.specs.declared.of_files.Fixed.{Fixed}
 abbrev pub limit : ℕ
 limit = 430
 
+-- bytes of items 1 to 3, with which every data record begins; a body is what follows
+abbrev pub front : ℕ
+front = 19
+
 -- EB13 and EB14: records of 120 bytes, bodies of 101; the key is items 5 and 6, reported as item 6
 abbrev pub enrolment : ℕ → Fixed
 enrolment name =

@@ -11,7 +11,7 @@ use Rattle.kinds.specs.declared.of_files.Kind.{Kind}
 use Rattle.kinds.specs.declared.of_files.Role.the-variants.{Header, Data, Trailer}
 use Rattle.tables.specs.declared.rows.Row.{Row}
 use Rattle.tables.specs.declared.totals.Quantity.{Quantity}
-use Rattle.kinds.specs.Kinds.{fixedOf}
+use Rattle.kinds.specs.Kinds.{front, fixedOf}
 use Rattle.tables.specs.Tables.{rowsOf}
 use Rattle.tables.specs.Totals.{noTotal, totalsOf}
 use Rattle.records.specs.Quantities.{worth, quantityOf}
@@ -53,7 +53,7 @@ frontFill r header n j = fillBy (r .3) 0 0 (getD (digitsOf (r .2) n) (j - r .1) 
 
 unfoldable pub dataByte : Kind → List ℕ → List ℕ → ℕ → ℕ → ℕ
 dataByte k header bodies i j =
-    cond (ltb j 19) (frontFill (rowOver (rowsOf k Data) j) header (i + 1) j) (getD bodies (i * fixedOf k .body + (j - 19)) 0)
+    cond (ltb j front) (frontFill (rowOver (rowsOf k Data) j) header (i + 1) j) (getD bodies (i * fixedOf k .body + (j - front)) 0)
 
 unfoldable pub dataBuilt : Kind → List ℕ → List ℕ → ℕ → List ℕ
 dataBuilt k header bodies i = tabulate (dataByte k header bodies i) (fixedOf k .size)

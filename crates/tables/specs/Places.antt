@@ -6,7 +6,7 @@ use lib.Dec.{eqb}
 use Rattle.kinds.specs.declared.of_files.Kind.{Kind}
 use Rattle.kinds.specs.declared.of_files.Kind.the-variants.{EB13, EB14, EB21, EB22}
 use Rattle.kinds.specs.declared.of_files.Role.the-variants.{Header, Data, Trailer}
-use Rattle.kinds.specs.Kinds.{fixedOf}
+use Rattle.kinds.specs.Kinds.{front, fixedOf}
 use Rattle.kinds.specs.Pairs.{markStart}
 use Rattle.kinds.specs.declared.of_pairs.PairKind.{PairKind}
 use Rattle.kinds.specs.declared.of_pairs.PairKind.the-variants.{Enrolment, Debit}
@@ -107,7 +107,7 @@ keyStands EB22 = keyIs EB22 payerPlace usePlace && eqb (fixedOf EB22 .key .item)
 
 -- a body begins where item 4 does and ends with the record
 unfoldable pub bodyStands : Kind → Bool
-bodyStands k = eqb (placeIn (rowsOf k Data) 4 .1 + fixedOf k .body) (fixedOf k .size)
+bodyStands k = eqb (placeIn (rowsOf k Data) 4 .1) front && eqb (front + fixedOf k .body) (fixedOf k .size)
 
 -- a result's mark begins the item of its result
 abbrev pub markStands : PairKind → Bool

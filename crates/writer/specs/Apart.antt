@@ -4,15 +4,17 @@ use mathlib.Core.List.{List}
 use Rattle.laws.specs.Part.{part}
 use Rattle.laws.specs.Joined.{joined}
 use Rattle.kinds.specs.declared.of_files.Kind.{Kind}
-use Rattle.kinds.specs.Kinds.{fixedOf}
-use Rattle.layout.specs.Items.{dateOf}
+use Rattle.kinds.specs.Kinds.{front, fixedOf}
+use Rattle.tables.specs.Places.{codePlace, branchPlace, accountPlace}
+use Rattle.layout.specs.Items.{bytesAt, dateOf}
 use Rattle.records.specs.Records.{recordOf, dataOf}
 use Rattle.making.specs.Records.{Head, headOf}
 use Rattle.writer.specs.Writing.{size6, size7}
 
 -- what a header is written from, of a header: items 5, 3, 6 and 7
 abbrev pub headFrom : Kind → List ℕ → Head
-headFrom k header = headOf (dateOf header) (part 9 10 header) (part 33 (size6 k) header) (part 40 (size7 k) header)
+headFrom k header =
+    headOf (dateOf header) (bytesAt codePlace header) (part (branchPlace .1) (size6 k) header) (part (accountPlace .1) (size7 k) header)
 
 -- and of a file
 unfoldable pub headIn : Kind → List ℕ → Head
@@ -20,7 +22,7 @@ headIn k s = headFrom k (recordOf k s 0)
 
 -- the body of data record i + 1: all that follows items 1 to 3
 unfoldable pub bodyAt : Kind → List ℕ → ℕ → List ℕ
-bodyAt k s i = part 19 (fixedOf k .body) (recordOf k s (i + 1))
+bodyAt k s i = part front (fixedOf k .body) (recordOf k s (i + 1))
 
 -- the bodies of all data records, one after the other
 unfoldable pub bodiesIn : Kind → List ℕ → List ℕ

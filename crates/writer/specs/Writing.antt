@@ -9,6 +9,7 @@ use Rattle.kinds.specs.declared.of_files.Kind.the-variants.{EB13, EB14, EB21, E
 use Rattle.kinds.specs.declared.of_files.Named.{Named}
 use Rattle.kinds.specs.declared.of_files.Named.the-variants.{Is, Unknown}
 use Rattle.kinds.specs.Kinds.{fixedOf, limit}
+use Rattle.tables.specs.Places.{codePlace, datePlace, branchPlace, accountPlace}
 use Rattle.answers.specs.declared.told.Answer.{Answer}
 use Rattle.answers.specs.Answers.{refused}
 use Rattle.reader.specs.Reading.{readAs}
@@ -22,21 +23,21 @@ requestOf n = cond (eqb n 0x45423133) (Is EB13) (cond (eqb n 0x45423231) (Is EB2
 -- every part is as long as its item, and the bodies are whole
 unfoldable pub partsFit : Head → List ℕ → ℕ → ℕ → ℕ → Bool
 partsFit h bodies size6 size7 body =
-    eqb (length (h .date)) 6 && (eqb (length (h .code)) 10 && (eqb (length (h .item6)) size6 && (eqb (length (h .item7)) size7 &&
+    eqb (length (h .date)) (datePlace .2) && (eqb (length (h .code)) (codePlace .2) && (eqb (length (h .item6)) size6 && (eqb (length (h .item7)) size7 &&
     eqb (length bodies % body) 0)))
 
 -- an enrolment has no items 6 and 7
 abbrev pub size6 : Kind → ℕ
 size6 EB13 = 0
 size6 EB14 = 0
-size6 EB21 = 7
-size6 EB22 = 7
+size6 EB21 = branchPlace .2
+size6 EB22 = branchPlace .2
 
 abbrev pub size7 : Kind → ℕ
 size7 EB13 = 0
 size7 EB14 = 0
-size7 EB21 = 16
-size7 EB22 = 16
+size7 EB21 = accountPlace .2
+size7 EB22 = accountPlace .2
 
 -- 2, 3, 8, then as reading the file to be written
 unfoldable pub writeAs : Kind → Head → List ℕ → ℕ → Answer
