@@ -1,25 +1,25 @@
--- The bodies of any file: each is as long as its kind says, and so are all together.
+-- The bodies of any file, handed out one by one and stored one behind the other.
 -- Assumes nothing.
 use Prim.Native.Nat.{ℕ, _+_, _-_, _*_, _≤_, _<_}
 use mathlib.Core.List.{List, [], _++_, append-assoc, append-nil}
 use mathlib.Core.Path.{_≡_, sym, _∙_}
-use native.Mathlib.Nat.{le-refl, le-of-eq, le-trans, mul-le-mul, sub-le, div-mul-le-self, suc-mul, zero-mul}
+use native.Mathlib.Nat.{le-refl, le-trans, mul-le-mul, sub-le, div-mul-le-self, suc-mul, zero-mul}
 use native.Mathlib.Numerals.{add-one}
 use native.Mathlib.Omega.{arith}
 use borrow.Author.Tests.{lt-ltb, le-ltb}
 use lib.ListN.{length, take, drop, length-drop, drop-of-length-le}
 use lib.Seq.{take-length, drop-drop}
 use Rattle.laws.specs.Joined.{joined}
-use Rattle.laws.proofs.Joins.{Sized, sized-length, size-below, joined-start, joined-more}
-use Rattle.laws.proofs.Parts.{part-length, rest}
+use Rattle.laws.proofs.Joins.{sized-length, size-below, joined-start, joined-more}
+use Rattle.laws.proofs.Parts.{rest}
 use Rattle.kinds.specs.declared.of_files.Kind.{Kind}
 use Rattle.kinds.specs.Kinds.{fixedOf}
-use Rattle.records.specs.Records.{recordAt, recordOf, countOf, dataOf}
-use Rattle.records.proofs.Places.{record-inside}
+use Rattle.records.specs.Records.{countOf, dataOf}
 use Rattle.making.specs.Files.{stored}
 use Rattle.making.proofs.Sizes.{body-size}
 use Rattle.making.proofs.Stores.{store-next}
-use Rattle.writer.specs.Apart.{bodyAt, bodiesIn}
+use Rattle.writer.specs.Apart.{bodyAt}
+use Rattle.writer.proofs.Taken.{bodies-sized}
 use Rattle.apart.specs.Taking.{bodyOf}
 
 -- all from a place on, with something copied to its front, is what is stored at the place
@@ -43,19 +43,9 @@ module _ (k : Kind) (s : List ℕ) where
   unfolding bodyOf
   body-none i h = rw (le-ltb i (dataOf k s) h)
 
-  pub bodies-sized : Sized (bodyAt k s) (fixedOf k .body) (dataOf k s)
-  unfolding bodyAt recordAt
-  bodies-sized i l =
-      part-length 19 (fixedOf k .body) (recordOf k s (i + 1))
-      (rw (part-length ((i + 1) * fixedOf k .size) (fixedOf k .size) s (record-inside k s (i + 1) (omega (arith, l)))) (le-of-eq (body-size k)))
-
-  pub bodies-length : length (bodiesIn k s) ≡ dataOf k s * fixedOf k .body
-  unfolding bodiesIn
-  bodies-length = sized-length (bodyAt k s) (fixedOf k .body) (dataOf k s) bodies-sized
-
   -- each lies within them
   pub body-within : (i n : ℕ) → n ≡ dataOf k s → i < n → i * fixedOf k .body + length (bodyOf k s i) ≤ n * fixedOf k .body
-  body-within i n e l = rw (body-is i (rw e at l), bodies-sized i (rw e at l)) (size-below i n (fixedOf k .body) l)
+  body-within i n e l = rw (body-is i (rw e at l), bodies-sized k s i (rw e at l)) (size-below i n (fixedOf k .body) l)
 
   -- they are no longer than the file
   pub bodies-within : dataOf k s * fixedOf k .body ≤ length s
@@ -74,5 +64,5 @@ module _ (k : Kind) (s : List ℕ) where
     pub store-more : (i : ℕ) → i < dataOf k s → stored (i * fixedOf k .body) (bodyOf k s i) (Stored i) ≡ Stored (i + 1)
     store-more i l =
         rw (body-is i l)
-        (store-next (joined (bodyAt k s) i) (bodyAt k s i) o (i * fixedOf k .body) (sized-length (bodyAt k s) (fixedOf k .body) i (λ j h. bodies-sized j (omega arith))) ∙
-        rw (← joined-more (bodyAt k s) i, bodies-sized i l, ← suc-mul i (fixedOf k .body), ← add-one i))
+        (store-next (joined (bodyAt k s) i) (bodyAt k s i) o (i * fixedOf k .body) (sized-length (bodyAt k s) (fixedOf k .body) i (λ j h. bodies-sized k s j (omega arith))) ∙
+        rw (← joined-more (bodyAt k s) i, bodies-sized k s i l, ← suc-mul i (fixedOf k .body), ← add-one i))

@@ -15,9 +15,9 @@ use Rattle.records.specs.Records.{dataOf}
 use Rattle.reader.specs.Reading.{readAs}
 use Rattle.reader.proofs.Accepted.{read-zero}
 use Rattle.writer.specs.Apart.{bodiesIn}
+use Rattle.writer.proofs.Taken.{bodies-length}
 use Rattle.apart.specs.declared.storing.Taken.{Taken}
 use Rattle.apart.specs.Taking.{roomTells, apartAs, storedAs, taken, atFront}
-use Rattle.apart.proofs.Bodies.{bodies-length}
 
 module _ (k : Kind) (s : List ℕ) (room : ℕ) where
   -- as reading the file; 8 where the room is too short; else accepted

@@ -11,7 +11,7 @@ use lib.Seq.{take-all}
 use Rattle.laws.specs.Joined.{joined}
 use Rattle.laws.specs.Part.{part}
 use Rattle.laws.specs.Sum.{sum}
-use Rattle.laws.proofs.Joins.{Sized, sized-length, sized-part, joined-same, joined-first, joined-more, parts-joined}
+use Rattle.laws.proofs.Joins.{sized-part, joined-same, joined-first, joined-more, parts-joined}
 use Rattle.laws.proofs.Parts.{part-length, part-at}
 use Rattle.laws.proofs.Sums.{sum-same}
 use Rattle.kinds.specs.declared.of_files.Kind.{Kind}
@@ -43,7 +43,7 @@ use Rattle.making.proofs.Rows.{totals-few}
 use Rattle.laws.proofs.Tabs.{tab-at}
 use Rattle.making.proofs.Sizes.{body-size}
 use Rattle.writer.proofs.Sizes.{item6-inside, item7-inside}
-use Rattle.writer.proofs.Taken.{Fits, each-fits}
+use Rattle.writer.proofs.Taken.{Fits, each-fits, bodies-sized, bodies-length}
 use Rattle.writer.proofs.Requests.{request-kind, request-name}
 use Rattle.writer.proofs.Again.{Said, header-again, data-again, trailer-again}
 
@@ -77,21 +77,13 @@ module _ (k : Kind) (s : List ℕ) (m : Meets k s) where
   count = omega (arith, m .lengths .fewest)
 
   -- the bodies are as many as the data records, and each is the one of its record
-  bodies-sized : Sized (bodyAt k s) b n
-  unfolding bodyAt
-  bodies-sized i l = part-length 19 b (recordOf k s (i + 1)) (rw (record-length k s m (i + 1) (omega (arith, count))) (le-of-eq (body-size k)))
-
-  bodies-long : length (bodiesIn k s) ≡ n * b
-  unfolding bodiesIn
-  bodies-long = sized-length (bodyAt k s) b n bodies-sized
-
   bodies-count : bodyCount k (bodiesIn k s) ≡ n
   unfolding bodyCount
-  bodies-count = rw bodies-long (mul-div-cancel n (body-some k))
+  bodies-count = rw (bodies-length k s) (mul-div-cancel n (body-some k))
 
   bodies-part : (i : ℕ) → i < n → part (i * b) b (bodiesIn k s) ≡ part 19 b (recordOf k s (i + 1))
   unfolding bodiesIn bodyAt
-  bodies-part i l = sized-part (bodyAt k s) b n bodies-sized i l
+  bodies-part i l = sized-part (bodyAt k s) b n (bodies-sized k s) i l
 
   -- what is taken from a file fits
   pub taken-fits : Fits k (headIn k s) (bodiesIn k s)
@@ -102,7 +94,7 @@ module _ (k : Kind) (s : List ℕ) (m : Meets k s) where
         code = part-length 9 10 H (omega (arith, size-least k, long));
         item6 = part-length 33 _ H (rw long (item6-inside k));
         item7 = part-length 40 _ H (rw long (item7-inside k));
-        whole = rw bodies-count bodies-long;
+        whole = rw bodies-count (bodies-length k s);
       }
     where
       long : length H ≡ fixedOf k .size

@@ -15,7 +15,7 @@ use Rattle.laws.specs.Joined.{joined}
 use Rattle.laws.specs.Least.{further, least, none}
 use Rattle.laws.specs.Part.{part}
 use Rattle.laws.proofs.Bools.{and-left, and-right}
-use Rattle.laws.proofs.Joins.{joined-length, joined-part, joined-same, parts-joined, size-below}
+use Rattle.laws.proofs.Joins.{Sized, sized-length, joined-length, joined-part, joined-same, parts-joined, size-below}
 use Rattle.laws.proofs.Parts.{part-length, part-at}
 use Rattle.kinds.specs.declared.of_files.Kind.{Kind}
 use Rattle.kinds.specs.declared.of_files.Kind.the-variants.{EB13, EB14, EB21, EB22}
@@ -25,7 +25,7 @@ use Rattle.kinds.specs.Kinds.{fixedOf}
 use Rattle.tables.specs.Rows.{blank}
 use Rattle.tables.specs.Tables.{headerFront, enrolmentHeader, debitHeader, rowsOf}
 use Rattle.records.specs.Records.{recordAt, recordOf, countOf, dataOf}
-use Rattle.records.proofs.Places.{size-pos}
+use Rattle.records.proofs.Places.{record-inside, size-pos}
 use Rattle.making.specs.Bytes.{fillBy}
 use Rattle.making.specs.Records.{Head, givenItem, headerFill, headerByte, headerBuilt, bodyCount, dataByte, dataBuilt, builtTotals, trailerBuilt}
 use Rattle.making.specs.Files.{frontOf, fileOf}
@@ -38,6 +38,17 @@ use Rattle.making.proofs.Stores.{part-front, part-behind}
 use Rattle.making.proofs.Built.{file-length}
 use Rattle.making.proofs.Sizes.{body-size}
 use Rattle.making.proofs.Over.{starts, endsPast, starts-over}
+
+-- of any file, each body is as long as its kind says, and so are all together
+pub bodies-sized : (k : Kind) (s : List ℕ) → Sized (bodyAt k s) (fixedOf k .body) (dataOf k s)
+unfolding bodyAt recordAt
+bodies-sized k s i l =
+    part-length 19 (fixedOf k .body) (recordOf k s (i + 1))
+    (rw (part-length ((i + 1) * fixedOf k .size) (fixedOf k .size) s (record-inside k s (i + 1) (omega (arith, l)))) (le-of-eq (body-size k)))
+
+pub bodies-length : (k : Kind) (s : List ℕ) → length (bodiesIn k s) ≡ dataOf k s * fixedOf k .body
+unfolding bodiesIn
+bodies-length k s = sized-length (bodyAt k s) (fixedOf k .body) (dataOf k s) (bodies-sized k s)
 
 -- where a row of the header is given its item, the item stands there
 module _ (k : Kind) (h : Head) (i : ℕ) where
