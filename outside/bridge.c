@@ -4,8 +4,8 @@
  * after another.
  *   a call:     its number (enum below), and its parameters in the order of cms.h but for the answer: a number as it is,
  *               a slice as its length in bytes and then its bytes
- *   an answer:  0, or what was changed that may not be (enum below); what the call returned; and all memory that was lent
- *               to be written, whole, in the order of the parameters, the answer last
+ *   an answer:  0, or what was changed that may not be (`changed` below); what the call returned; and all memory that was
+ *               lent to be written, whole, in the order of the parameters, the answer last
  * Before all, one number says that the bridge is there.
  *
  * Each slice is lent from a place of its own that ends where no memory may be touched, so a step past its end ends this
@@ -34,6 +34,9 @@ static struct lent {
     const uint8_t *before;
 } lent[MOST];
 static size_t lent_count;
+
+/* What stands in front of all that is lent. */
+static uint8_t watched[WATCHED];
 
 static const uint8_t *call, *calls_end;
 static uint8_t *answers;
@@ -91,13 +94,12 @@ static void make_places(void) {
     uint8_t *all = mmap(NULL, MOST * each + 2 * GUARD, PROT_NONE, MAP_PRIVATE | MAP_ANONYMOUS, -1, 0);
     if (all == MAP_FAILED) fail("the bridge has no memory to lend\n");
     all += GUARD - (uintptr_t)all % GUARD;
+    for (size_t i = 0; i < WATCHED; i++) watched[i] = (uint8_t)(0xa5 ^ i);
     for (size_t i = 0; i < MOST; i++, all += each) {
         if (mprotect(all, LONGEST, PROT_READ | PROT_WRITE)) fail("the bridge cannot guard memory\n");
         lent[i].end = all + LONGEST;
     }
 }
-
-static uint8_t watched(size_t place) { return (uint8_t)(0xa5 ^ place); }
 
 static struct lent *lend(size_t length) {
     if (lent_count == MOST || length > LONGEST - WATCHED) fail("the bridge lends no more than it has\n");
@@ -105,7 +107,7 @@ static struct lent *lend(size_t length) {
     one->start = one->end - length;
     one->length = length;
     one->before = NULL;
-    for (size_t i = 0; i < WATCHED; i++) one->start[i - WATCHED] = watched(i);
+    memcpy(one->start - WATCHED, watched, WATCHED);
     return one;
 }
 
@@ -152,8 +154,7 @@ static uint64_t changed(void) {
     for (size_t i = 0; i < lent_count; i++) {
         const struct lent *one = &lent[i];
         if (one->before && one->length > 0 && memcmp(one->start, one->before, one->length)) return 2 * i + 1;
-        for (size_t k = 0; k < WATCHED; k++)
-            if (one->start[k - WATCHED] != watched(k)) return 2 * i + 2;
+        if (memcmp(one->start - WATCHED, watched, WATCHED)) return 2 * i + 2;
     }
     return 0;
 }

@@ -1,6 +1,6 @@
 #!/bin/sh
-# Builds target/bridge, the program through which the comparison calls the proved library: `outside/bridge.sh`. Compiled and
-# linked by the kit for x86-64 on every machine alike; only the C library's headers are those of `cc`.
+# Builds target/bridge, the program through which the comparison calls the proved library: `outside/bridge.sh`. It is
+# compiled and linked by the kit for x86-64 on every machine alike; only the C library's headers are those of `cc`.
 # `outside/bridge.sh run` starts it, to be spoken to over standard input and output.
 set -eu
 unset CDPATH
@@ -14,9 +14,9 @@ bridge=target/bridge
 if [ "${1:-}" = run ]; then
     for source in "$archive" outside/bridge.c include/cms.h; do
         [ -n "$(find "$bridge" -newer "$source" 2>/dev/null)" ] ||
-            cannot "$bridge is missing or older than $source: build it with 'outside/bridge.sh' at the top of the repository"
+            cannot "$bridge is missing or older than $source: build it with 'outside/bridge.sh'"
     done
-    # Else the C library stores long runs of bytes by an instruction that an emulator takes byte by byte.
+    # Else the C library copies long runs of bytes by an instruction that an emulator takes byte by byte.
     GLIBC_TUNABLES=glibc.cpu.hwcaps=-ERMS
     export GLIBC_TUNABLES
     become "$bridge"
