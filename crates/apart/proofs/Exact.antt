@@ -18,7 +18,7 @@ use Rattle.answers.specs.Answers.{accepted, refused, refuses}
 use Rattle.answers.proofs.Refusals.{number-of, refuses-zero, refuses-other}
 use Rattle.reader.specs.Reading.{readAs, readOf}
 use Rattle.reader.proofs.Accepted.{read-named, read-zero}
-use Rattle.writer.specs.Writing.{requestOf}
+use Rattle.kinds.specs.Kinds.{requestOf}
 use Rattle.writer.specs.Apart.{bodiesIn}
 use Rattle.writer.proofs.Requests.{request-kind}
 use Rattle.apart.specs.Taking.{apartAs, apartNamed, storedNamed, apartTold, apartStored, taken, atFront, apartOf, apartAfter}

@@ -10,7 +10,8 @@ use Rattle.answers.specs.Answers.{accepted, refused}
 use Rattle.reader.specs.Reading.{readOf}
 use Rattle.making.specs.Records.{Head, headOf}
 use Rattle.making.specs.Files.{fileOf}
-use Rattle.writer.specs.Writing.{requestOf, writeOf, roomAfter}
+use Rattle.writer.specs.Writing.{writeOf, roomAfter}
+use Rattle.kinds.specs.Kinds.{requestOf}
 use Rattle.writer.specs.Apart.{headIn, bodiesIn}
 use Rattle.apart.specs.Taking.{taken, atFront, apartOf, apartAfter}
 

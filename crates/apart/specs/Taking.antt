@@ -11,7 +11,7 @@ use Rattle.answers.specs.declared.told.Answer.{Answer}
 use Rattle.answers.specs.Answers.{accepted, refused, refuses, _then_}
 use Rattle.records.specs.Records.{dataOf}
 use Rattle.reader.specs.Reading.{readAs}
-use Rattle.writer.specs.Writing.{requestOf}
+use Rattle.kinds.specs.Kinds.{requestOf}
 use Rattle.writer.specs.Apart.{bodyAt, bodiesIn}
 use Rattle.apart.specs.declared.storing.Taken.{Taken}
 

@@ -10,8 +10,10 @@ ghost use Rattle.writer.specs.Apart.{bodiesIn};
 ghost use Rattle.apart.specs.Taking.{apartAs, storedAs, taken, atFront, apartOf, apartAfter};
 use crate::taking;
 use answers::told::Answer;
+use kinds::of_files;
 use kinds::of_files::Fixed;
 use kinds::of_files::Kind;
+use kinds::of_files::Named;
 use reader::reading;
 use records::listed;
 
@@ -70,14 +72,12 @@ pub fn take_apart(kind: u64, file: &[u8], room: &mut [u8]) -> Taken
     ensures { λ r. ⌜ r ≡ apartOf kind (now (file .entry)) (length (now (room .entry))) ⌝ }
     ensures { λ _. ⌜ now (room .exit) ≡ apartAfter kind (now (file .entry)) (now (room .entry)) ⌝ }
 {
-    if kind == Fixed::EB13 {
-        return take_as(Kind::EB13, file, room);
-    }
-    if kind == Fixed::EB21 {
-        return take_as(Kind::EB21, file, room);
-    }
-    Taken {
-        answer: Answer::refused(1),
-        size: 0,
+    let named = of_files::request_of(kind);
+    match named {
+        Named::Is(request) => take_as(request, file, room),
+        Named::Unknown => Taken {
+            answer: Answer::refused(1),
+            size: 0,
+        },
     }
 }

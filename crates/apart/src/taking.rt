@@ -3,36 +3,12 @@
 ghost use mathlib.Core.Path.{_≡_};
 ghost use Rattle.laws.specs.Part.{part};
 ghost use Rattle.records.specs.Records.{recordOf};
-ghost use Rattle.writer.specs.Writing.{size6, size7};
 ghost use Rattle.writer.specs.Apart.{headIn};
 ghost use Rattle.apart.specs.Taking.{bodyOf};
 use kinds::of_files::Fixed;
 use kinds::of_files::Kind;
 use records::listed;
 use text::parts;
-
-// An enrolment has no items 6 and 7.
-fn size_6(kind: Kind) -> usize
-    ensures { λ r. ⌜ r ≡ size6 kind ⌝ }
-{
-    match kind {
-        Kind::EB13 => 0,
-        Kind::EB14 => 0,
-        Kind::EB21 => 7,
-        Kind::EB22 => 7,
-    }
-}
-
-fn size_7(kind: Kind) -> usize
-    ensures { λ r. ⌜ r ≡ size7 kind ⌝ }
-{
-    match kind {
-        Kind::EB13 => 0,
-        Kind::EB14 => 0,
-        Kind::EB21 => 16,
-        Kind::EB22 => 16,
-    }
-}
 
 // The part of s that begins at start and is size bytes long, or what s has of it.
 fn part_of(s: &[u8], start: usize, size: usize) -> &[u8]
@@ -70,14 +46,14 @@ pub fn code(kind: Kind, file: &[u8]) -> &[u8]
 pub fn item6(kind: Kind, file: &[u8]) -> &[u8]
     ensures { λ r. ⌜ now r ≡ headIn kind (now (file .entry)) .item6 ⌝ }
 {
-    part_of(header(kind, file), 33, size_6(kind))
+    part_of(header(kind, file), 33, Fixed::of(kind).item6)
 }
 
 // The header's item 7; nothing in an enrolment.
 pub fn item7(kind: Kind, file: &[u8]) -> &[u8]
     ensures { λ r. ⌜ now r ≡ headIn kind (now (file .entry)) .item7 ⌝ }
 {
-    part_of(header(kind, file), 40, size_7(kind))
+    part_of(header(kind, file), 40, Fixed::of(kind).item7)
 }
 
 // The body of data record i + 1; nothing where there is no such record.

@@ -1,7 +1,8 @@
 // What a word of a case says.
 ghost use Prim.Native.Nat.{_<_};
-use kinds::of_files::Fixed;
+use kinds::of_files;
 use kinds::of_files::Kind;
+use kinds::of_files::Named;
 use numbers::base_ten;
 
 // The number that a word of at most nineteen digits says; a longer one says nothing.
@@ -25,10 +26,9 @@ pub(crate) fn count(s: &[u8]) -> usize
 
 // The kind that a name says; EB21 where it is unknown.
 pub(crate) fn kind(name: u64) -> Kind {
-    match name {
-        Fixed::EB13 => Kind::EB13,
-        Fixed::EB14 => Kind::EB14,
-        Fixed::EB22 => Kind::EB22,
-        _ => Kind::EB21,
+    let named = of_files::kind_of(name);
+    match named {
+        Named::Is(kind) => kind,
+        Named::Unknown => Kind::EB21,
     }
 }

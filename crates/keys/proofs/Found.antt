@@ -5,21 +5,24 @@ use mathlib.Core.List.{List}
 use mathlib.Core.Path.{_≡_, _∙_}
 use native.Mathlib.Nat.{le-trans}
 use borrow.Author.Tests.{lt-ltb, le-ltb}
-use lib.ListN.{getD}
-use Rattle.laws.proofs.Tabs.{tab-at}
-use Rattle.kinds.specs.Kinds.{limit}
-use Rattle.keys.specs.Keys.{keyIn, placeIn, placeFor, placesIn}
+use lib.ListN.{length, getD}
+use Rattle.laws.proofs.Tabs.{tab-at, tab-length}
+use Rattle.keys.specs.Keys.{placeIn, placeFor, placesIn}
 
-module _ (stride offset size : ℕ) (s : List ℕ) (n : ℕ) (t : List ℕ) (m : ℕ) where
-  pub place-here : (j : ℕ) → j < m → placeFor stride offset size s n t m j ≡ placeIn stride offset size s n (keyIn stride offset size t j)
+module _ (key : ℕ → List ℕ) (n : ℕ) (other : ℕ → List ℕ) (m : ℕ) where
+  pub place-here : (j : ℕ) → j < m → placeFor key n other m j ≡ placeIn key n (other j)
   unfolding placeFor
   place-here j h = rw (lt-ltb j m h)
 
-  pub place-past : (j : ℕ) → m ≤ j → placeFor stride offset size s n t m j ≡ 0
+  pub place-past : (j : ℕ) → m ≤ j → placeFor key n other m j ≡ 0
   unfolding placeFor
   place-past j h = rw (le-ltb j m h)
 
-  -- the place of each key in the list
-  pub place-of : m ≤ limit → (j : ℕ) → j < m → getD (placesIn stride offset size s n t m) j 0 ≡ placeIn stride offset size s n (keyIn stride offset size t j)
+  -- the place of each key in a list that has room for it
+  pub place-of : (room : ℕ) → m ≤ room → (j : ℕ) → j < m → getD (placesIn key n other m room) j 0 ≡ placeIn key n (other j)
   unfolding placesIn
-  place-of l j h = tab-at (placeFor stride offset size s n t m) limit j (le-trans h l) ∙ place-here j h
+  place-of room l j h = tab-at (placeFor key n other m) room j (le-trans h l) ∙ place-here j h
+
+  pub places-length : (room : ℕ) → length (placesIn key n other m room) ≡ room
+  unfolding placesIn
+  places-length room = tab-length _ room

@@ -1,5 +1,7 @@
 -- Laws about the definitions of specs/.
-pub mod Hashes
+pub mod Hashing
+pub mod Filling
 pub mod Starts
 pub mod Found
+pub mod Spaced
 pub mod Steps

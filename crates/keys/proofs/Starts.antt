@@ -1,60 +1,69 @@
--- No key before its slot has its number, so that a search may begin there.
+-- No key before the slot of its number is the same, so that a search may begin there.
 -- Assumes nothing.
-use Prim.Native.Nat.{ℕ, zero, suc, _-_, _%_, _≤_, _<_, zero-le}
-use mathlib.Core.List.{List, [], _∷_}
-use mathlib.Core.Path.{_≡_, refl, sym}
+use Prim.Native.Nat.{ℕ, _+_, _%_, _≤_, _<_}
+use mathlib.Core.Bool.{true, false}
+use mathlib.Core.List.{List, _++_}
+use mathlib.Core.Path.{_≡_, refl, sym, _∙_}
 use mathlib.Core.Logic.{⊎-elim}
-use native.Mathlib.Nat.{le-of-eq, mod-lt, eq-or-lt-of-le}
+use native.Mathlib.Nat.{mod-lt}
 use native.Mathlib.Omega.{arith}
-use lib.ListN.{length, getD, set, replicate, getD-replicate}
-use lib.Seq.{getD-set-same}
+use borrow.Author.Tests.{eq-eqb, ltb-true, ltb-false}
+use lib.Dec.{ltb}
+use lib.ListN.{length, getD, drop, List·getD-append, length-append}
 use Rattle.laws.specs.Least.{least}
-use Rattle.laws.proofs.Leasts.{least-none}
-use Rattle.kinds.specs.Kinds.{limit}
-use Rattle.keys.specs.Keys.{keyIn, sharesIn, hasKeyIn}
-use Rattle.keys.specs.Hashes.{hashOf, hashesOf, slotCount, Slotted}
-use Rattle.keys.proofs.Hashes.{hash-of, hash-differs}
+use Rattle.laws.specs.Tabulate.{tabulate}
+use Rattle.laws.proofs.Bools.{either, clash}
+use Rattle.laws.proofs.Leasts.{least-is, least-none}
+use Rattle.laws.proofs.Tabs.{tab-at, tab-length}
+use Rattle.keys.specs.Keys.{sharesIn, hasKeyIn}
+use Rattle.keys.specs.Hashes.{hashOf, hashAt, hashesOf, goesTo, slotAt, slotsOf, Tabled}
+use Rattle.keys.proofs.Hashing.{hash-differs}
 
--- a list that was within a bound at a place, and had something within it set anywhere, is within it still
-set-within : (l : List ℕ) (b v c k : ℕ) → v ≤ k → getD l c 0 ≤ k → getD (set l b v) c 0 ≤ k
-set-within [] b v c k h g = g
-set-within (x ∷ xs) zero v zero k h g = h
-set-within (x ∷ xs) zero v (suc c) k h g = g
-set-within (x ∷ xs) (suc b) v zero k h g = g
-set-within (x ∷ xs) (suc b) v (suc c) k h g = set-within xs b v c k h g
-
--- a loop that fills the table from the last number to the first
-module _ (numbers : List ℕ) (n : ℕ) where
-  pub slots-start : Slotted numbers n n (replicate slotCount n)
-  slots-start = record {
-    within = λ h. le-of-eq (getD-replicate slotCount (h % slotCount) n 0 (mod-lt h (omega arith)));
-    early = λ i l h. absurd (omega arith);
-  }
-
-  pub slots-more :
-      (slots : List ℕ) (i b : ℕ) → 0 < i → i ≤ n → b ≡ getD numbers (i - 1) 0 % slotCount → b < length slots →
-      Slotted numbers i n slots → Slotted numbers (i - 1) n (set slots b (i - 1))
-  slots-more slots i b p h e l q = record {
-    within = λ k. set-within slots b (i - 1) (k % slotCount) n (omega arith) (q .within k);
-    early = λ k low k<n. ⊎-elim (here k) (λ lt. set-within slots b (i - 1) (getD numbers k 0 % slotCount) k low (q .early k (omega arith) k<n)) (eq-or-lt-of-le low);
+module _ (key : ℕ → List ℕ) (n : ℕ) where
+  -- the numbers of n keys and their slots are a table of them
+  pub table-of :
+      (hashes slots old : List ℕ) (count : ℕ) → hashes ≡ hashesOf key n ++ old → slots ≡ slotsOf hashes n count → 0 < count →
+      Tabled key n hashes slots
+  unfolding slotsOf hashesOf hashAt
+  table-of hashes slots old count e g w = record {
+    room = rw (e, length-append (tabulate (hashAt key) n) old, tab-length) (omega arith);
+    wide = rw wide w;
+    numbered = λ i h. rw (e, first i h);
+    slotted = λ b h. rw (wide, g) (tab-at (slotAt hashes n count) count b (rw (← wide) h));
   }
     where
-      here : (k : ℕ) → i - 1 ≡ k → getD (set slots b (i - 1)) (getD numbers k 0 % slotCount) 0 ≤ k
-      here k g = rw (← g, ← e, getD-set-same slots b (i - 1) 0 l) (le-of-eq refl)
+      wide : length slots ≡ count
+      wide = rw g (tab-length _ count)
 
-module _ (stride offset size : ℕ) (s : List ℕ) (n : ℕ) (slots : List ℕ) (few : n ≤ limit) (q : Slotted (hashesOf stride offset size s n) 0 n slots) where
-  -- a key before the slot of a number has another number
-  slot-differs : (h j : ℕ) → j < getD slots (h % slotCount) 0 → hashOf (keyIn stride offset size s j) ≡ h → ⊥
-  slot-differs h j l e =
-      let b = q .within h in
-      let late = q .early j zero-le (omega arith) in
-      omega (arith, rw (hash-of stride offset size s n few j (omega arith), e) at late)
+      first : (i : ℕ) → i < n → getD (hashesOf key n ++ old) i 0 ≡ hashOf (key i)
+      first i h = List·getD-append (hashesOf key n) old 0 i (rw tab-length h) ∙ tab-at (hashAt key) n i h
 
-  -- so it is another key
-  pub shares-from : (i h : ℕ) → h ≡ hashOf (keyIn stride offset size s i) → least (sharesIn stride offset size s i) (getD slots (h % slotCount) 0) ≡ getD slots (h % slotCount) 0
-  unfolding sharesIn
-  shares-from i h e = least-none _ _ (λ j lt. hash-differs _ _ (λ g. slot-differs h j lt (sym (rw e g))))
+  module _ (hashes slots : List ℕ) (t : Tabled key n hashes slots) where
+    -- what the slot of a number holds
+    slot-is : (h : ℕ) → getD slots (h % length slots) 0 ≡ slotAt hashes n (length slots) (h % length slots)
+    slot-is h = t .slotted (h % length slots) (mod-lt h (t .wide))
 
-  pub place-from : (key : List ℕ) → least (hasKeyIn stride offset size s key) (getD slots (hashOf key % slotCount) 0) ≡ getD slots (hashOf key % slotCount) 0
-  unfolding hasKeyIn
-  place-from key = least-none _ _ (λ j lt. hash-differs _ _ (slot-differs (hashOf key) j lt))
+    pub slot-within : (h : ℕ) → getD slots (h % length slots) 0 ≤ n
+    unfolding slotAt
+    slot-within h = rw (slot-is h) (least-is _ n .within)
+
+    -- a key before the slot of a number has another number
+    slot-differs : (h j : ℕ) → j < getD slots (h % length slots) 0 → hashOf (key j) ≡ h → ⊥
+    unfolding slotAt goesTo
+    slot-differs h j l e =
+        let b = slot-within h in
+        let f = least-is (goesTo hashes (length slots) (h % length slots)) n .before j (rw (slot-is h) at l) in
+        clash (eq-eqb (h % length slots) (h % length slots) refl) (rw (t .numbered j (omega arith), e) at f)
+
+    pub slot-early : (i h : ℕ) → h ≡ hashOf (key i) → getD slots (h % length slots) 0 ≤ i
+    slot-early i h e =
+        ⊎-elim (λ l. absurd (slot-differs h i (ltb-true _ _ l) (sym e))) (λ f. ltb-false _ _ f) (either (ltb i (getD slots (h % length slots) 0)))
+
+    -- so it is another key
+    pub shares-from : (i h : ℕ) → h ≡ hashOf (key i) → least (sharesIn key i) (getD slots (h % length slots) 0) ≡ getD slots (h % length slots) 0
+    unfolding sharesIn
+    shares-from i h e = least-none _ _ (λ j lt. hash-differs _ _ (λ g. slot-differs h j lt (sym (rw e g))))
+
+    pub place-from : (one : List ℕ) → least (hasKeyIn key one) (getD slots (hashOf one % length slots) 0) ≡ getD slots (hashOf one % length slots) 0
+    unfolding hasKeyIn
+    place-from one = least-none _ _ (λ j lt. hash-differs _ _ (slot-differs (hashOf one) j lt))

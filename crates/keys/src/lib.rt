@@ -1,5 +1,7 @@
-// Keys of one size at a fixed distance from each other: the first that repeats an earlier one, and where each of some keys stands among others.
-mod numbers;
+// Keys of one size, at a fixed distance or wherever a list says: the first that repeats an earlier one, and where each of some keys stands among others.
+mod hashes;
 pub mod places;
 pub mod repeats;
 mod slots;
+pub mod stands;
+pub mod table;

@@ -1,34 +1,34 @@
 // Where each of some keys stands among others.
 ghost use mathlib.Core.Path.{_≡_};
-ghost use Prim.Native.Nat.{ℕ, _+_, _*_, _≤_, _<_};
 ghost use lib.ListN.{length};
-ghost use Rattle.kinds.specs.Kinds.{limit};
 ghost use Rattle.keys.specs.Keys.{placeIn, placeFor, placesIn};
-ghost use Rattle.keys.specs.Hashes.{hashesOf, Slotted};
-use crate::numbers;
-use crate::numbers::Spacing;
+ghost use Rattle.keys.specs.Stands.{keyIn, Inside};
+ghost use Rattle.keys.specs.Hashes.{Tabled};
+use crate::hashes;
 use crate::slots;
-use kinds::of_files::LIMIT;
+use crate::stands;
+use crate::stands::Spacing;
 
-// The first of n keys that is this one; n where none is.
-fn place(
+// The first of n keys that is this one; n where none is. `numbers` and `firsts` are their table.
+pub fn place(
     s: &[u8],
-    n: usize,
+    places: &[u32],
     spacing: Spacing,
-    hashes: &[u64; LIMIT],
-    slots: &[usize; slots::SLOTS],
+    n: usize,
+    numbers: &[u32],
+    firsts: &[u16],
     key: &[u8],
 ) -> usize
-    requires { ⌜ n ≤ limit ⌝ }
-    requires { ⌜ ((i : ℕ) → i < n → i * spacing .stride + spacing .offset + spacing .size ≤ length (now s)) ⌝ }
-    requires { ⌜ now hashes ≡ hashesOf (spacing .stride) (spacing .offset) (spacing .size) (now s) n ⌝ }
-    requires { ⌜ Slotted (now hashes) 0 n (now slots) ⌝ }
-    ensures { λ r. ⌜ r ≡ placeIn (spacing .stride) (spacing .offset) (spacing .size) (now (s .entry)) n (now (key .entry)) ⌝ }
+    requires { ⌜ Inside (now places) spacing (now s) n ⌝ }
+    requires { ⌜ Tabled (keyIn (now places) spacing (now s)) n (now numbers) (now firsts) ⌝ }
+    ensures { λ r. ⌜ r ≡ placeIn (keyIn (now (places .entry)) spacing (now (s .entry))) n (now (key .entry)) ⌝ }
 {
-    let hash = numbers::hash(key);
-    let mut i = slots[slots::slot(hash)];
+    let hash = hashes::hash(key);
+    let b = slots::slot(hash, firsts.len());
+    let mut i = firsts[b] as usize;
     while i < n {
-        if numbers::alike(numbers::key_in(s, spacing, i), key, hashes[i], hash) {
+        let other = stands::key_in(s, places, spacing, i);
+        if hashes::alike(other, key, numbers[i], hash) {
             return i;
         }
         i += 1;
@@ -39,55 +39,63 @@ fn place(
 // The place of key j of t; 0 past its m keys.
 fn place_for(
     s: &[u8],
-    n: usize,
+    places: &[u32],
     spacing: Spacing,
-    hashes: &[u64; LIMIT],
-    slots: &[usize; slots::SLOTS],
+    n: usize,
+    numbers: &[u32],
+    firsts: &[u16],
     t: &[u8],
+    others: &[u32],
+    spaced: Spacing,
     m: usize,
     j: usize,
 ) -> usize
-    requires { ⌜ n ≤ limit ⌝ }
-    requires { ⌜ ((i : ℕ) → i < n → i * spacing .stride + spacing .offset + spacing .size ≤ length (now s)) ⌝ }
-    requires { ⌜ now hashes ≡ hashesOf (spacing .stride) (spacing .offset) (spacing .size) (now s) n ⌝ }
-    requires { ⌜ Slotted (now hashes) 0 n (now slots) ⌝ }
-    requires { ⌜ ((j : ℕ) → j < m → j * spacing .stride + spacing .offset + spacing .size ≤ length (now t)) ⌝ }
-    ensures { λ r. ⌜ r ≡ placeFor (spacing .stride) (spacing .offset) (spacing .size) (now (s .entry)) n (now (t .entry)) m j ⌝ }
+    requires { ⌜ Inside (now places) spacing (now s) n ⌝ }
+    requires { ⌜ Tabled (keyIn (now places) spacing (now s)) n (now numbers) (now firsts) ⌝ }
+    requires { ⌜ Inside (now others) spaced (now t) m ⌝ }
+    ensures { λ r. ⌜ r ≡ placeFor (keyIn (now (places .entry)) spacing (now (s .entry))) n (keyIn (now (others .entry)) spaced (now (t .entry))) m j ⌝ }
 {
     if j < m {
-        let key = numbers::key_in(t, spacing, j);
-        return place(s, n, spacing, hashes, slots, key);
+        let key = stands::key_in(t, others, spaced, j);
+        return place(s, places, spacing, n, numbers, firsts, key);
     }
     0
 }
 
-// For each of m keys of t, its place among the n keys of s.
+// For each of m keys of t, its place among the n keys of s, as far as the list goes; 0 past the m.
 pub fn places(
     s: &[u8],
+    places: &[u32],
+    spacing: Spacing,
     n: usize,
+    numbers: &[u32],
+    firsts: &[u16],
     t: &[u8],
+    others: &[u32],
+    spaced: Spacing,
     m: usize,
-    stride: usize,
-    offset: usize,
-    size: usize,
-) -> [usize; LIMIT]
-    requires { ⌜ n ≤ limit ⌝ }
-    requires { ⌜ ((i : ℕ) → i < n → i * stride + offset + size ≤ length (now s)) ⌝ }
-    requires { ⌜ ((j : ℕ) → j < m → j * stride + offset + size ≤ length (now t)) ⌝ }
-    ensures { λ r. ⌜ r ≡ placesIn stride offset size (now (s .entry)) n (now (t .entry)) m ⌝ }
+    list: &mut [usize],
+)
+    requires { ⌜ Inside (now places) spacing (now s) n ⌝ }
+    requires { ⌜ Tabled (keyIn (now places) spacing (now s)) n (now numbers) (now firsts) ⌝ }
+    requires { ⌜ Inside (now others) spaced (now t) m ⌝ }
+    ensures { λ _. ⌜ now (list .exit) ≡ placesIn (keyIn (now (places .entry)) spacing (now (s .entry))) n (keyIn (now (others .entry)) spaced (now (t .entry))) m (length (now (list .entry))) ⌝ }
 {
-    let spacing = Spacing {
-        stride,
-        offset,
-        size,
-    };
-    let hashes = numbers::hashes(s, n, spacing);
-    let slots = slots::slots(&hashes, n);
-    let mut list = [0usize; LIMIT];
     let mut j = 0;
-    while j < LIMIT {
-        list[j] = place_for(s, n, spacing, &hashes, &slots, t, m, j);
+    while j < list.len() {
+        list[j] = place_for(
+            s,
+            places,
+            spacing,
+            n,
+            numbers,
+            firsts,
+            t,
+            others,
+            spaced,
+            m,
+            j,
+        );
         j += 1;
     }
-    list
 }

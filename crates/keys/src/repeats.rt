@@ -1,34 +1,36 @@
 // The first key that is an earlier one.
 ghost use mathlib.Core.Path.{_≡_};
-ghost use Prim.Native.Nat.{ℕ, _+_, _*_, _≤_, _<_};
-ghost use lib.ListN.{length};
 ghost use Rattle.laws.specs.Least.{least};
-ghost use Rattle.kinds.specs.Kinds.{limit};
 ghost use Rattle.keys.specs.Keys.{repeatsIn};
-use crate::numbers;
-use crate::numbers::Spacing;
+ghost use Rattle.keys.specs.Stands.{keyIn, Inside};
+ghost use Rattle.keys.specs.Hashes.{Tabled};
+use crate::hashes;
 use crate::slots;
+use crate::stands;
+use crate::stands::Spacing;
 
-// The first of n keys, one every `stride` bytes from `offset` on, that is the same as an earlier one; or n.
-pub fn first_repeat(s: &[u8], n: usize, stride: usize, offset: usize, size: usize) -> usize
-    requires { ⌜ n ≤ limit ⌝ }
-    requires { ⌜ ((i : ℕ) → i < n → i * stride + offset + size ≤ length (now s)) ⌝ }
-    ensures { λ r. ⌜ r ≡ least (repeatsIn stride offset size (now (s .entry))) n ⌝ }
+// The first of n keys that is the same as an earlier one, or n; `numbers` and `firsts` are their table.
+pub fn first_repeat(
+    s: &[u8],
+    places: &[u32],
+    spacing: Spacing,
+    n: usize,
+    numbers: &[u32],
+    firsts: &[u16],
+) -> usize
+    requires { ⌜ Inside (now places) spacing (now s) n ⌝ }
+    requires { ⌜ Tabled (keyIn (now places) spacing (now s)) n (now numbers) (now firsts) ⌝ }
+    ensures { λ r. ⌜ r ≡ least (repeatsIn (keyIn (now (places .entry)) spacing (now (s .entry)))) n ⌝ }
 {
-    let spacing = Spacing {
-        stride,
-        offset,
-        size,
-    };
-    let hashes = numbers::hashes(s, n, spacing);
-    let slots = slots::slots(&hashes, n);
     let mut i = 0;
     'search: while i < n {
-        let key = numbers::key_in(s, spacing, i);
-        let hash = hashes[i];
-        let mut j = slots[slots::slot(hash)];
+        let key = stands::key_in(s, places, spacing, i);
+        let hash = numbers[i];
+        let b = slots::slot(hash, firsts.len());
+        let mut j = firsts[b] as usize;
         while j < i {
-            if numbers::alike(key, numbers::key_in(s, spacing, j), hash, hashes[j]) {
+            let other = stands::key_in(s, places, spacing, j);
+            if hashes::alike(key, other, hash, numbers[j]) {
                 break 'search;
             }
             j += 1;

@@ -1,31 +1,41 @@
-// From where on a key is searched for: no key before its slot has its number.
+// From where on a key is searched for: the slot of its number holds the first key whose number goes there.
 ghost use mathlib.Core.Path.{_≡_};
 ghost use Prim.Native.Nat.{_%_, _≤_, _<_};
-ghost use Rattle.kinds.specs.Kinds.{limit};
-ghost use Rattle.keys.specs.Hashes.{slotCount, Slotted};
-use kinds::of_files::LIMIT;
+ghost use lib.ListN.{length, replicate};
+ghost use Rattle.keys.specs.Hashes.{slotsOf};
 
-// A prime, so that the numbers of keys that differ in a few digits go to different slots.
-pub(crate) const SLOTS: usize = 1021;
-
-// The slot of a number.
-pub(crate) fn slot(hash: u64) -> usize
-    ensures { λ r. ⌜ r ≡ hash % slotCount ⌝ }
-    ensures { λ r. ⌜ r < slotCount ⌝ }
+// The slot of a number, of so many.
+pub(crate) fn slot(hash: u32, count: usize) -> usize
+    requires { ⌜ 0 < count ⌝ }
+    ensures { λ r. ⌜ r ≡ hash % count ⌝ }
+    ensures { λ r. ⌜ r < count ⌝ }
 {
-    hash as usize % SLOTS
+    hash as usize % count
 }
 
-// Each of n numbers stands at its slot or after it, from the last number to the first.
-pub(crate) fn slots(hashes: &[u64; LIMIT], n: usize) -> [usize; SLOTS]
-    requires { ⌜ n ≤ limit ⌝ }
-    ensures { λ r. ⌜ Slotted (now (hashes .entry)) 0 n r ⌝ }
+// Every slot holds n.
+fn clear(slots: &mut [u16], n: u16)
+    ensures { λ _. ⌜ now (slots .exit) ≡ replicate (length (now (slots .entry))) n ⌝ }
 {
-    let mut list = [n; SLOTS];
+    let mut b = 0;
+    while b < slots.len() {
+        slots[b] = n;
+        b += 1;
+    }
+}
+
+// Each slot holds the first of n numbers that goes to it, and n where none does: filled from the last number to the first.
+pub(crate) fn fill(hashes: &[u32], n: usize, slots: &mut [u16])
+    requires { ⌜ n ≤ length (now hashes) ⌝ }
+    requires { ⌜ n ≤ 65535 ⌝ }
+    requires { ⌜ 0 < length (now slots) ⌝ }
+    ensures { λ _. ⌜ now (slots .exit) ≡ slotsOf (now (hashes .entry)) n (length (now (slots .entry))) ⌝ }
+{
+    clear(slots, n as u16);
     let mut i = n;
     while 0 < i {
         i -= 1;
-        list[slot(hashes[i])] = i;
+        let b = slot(hashes[i], slots.len());
+        slots[b] = i as u16;
     }
-    list
 }

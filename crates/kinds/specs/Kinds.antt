@@ -1,9 +1,14 @@
--- The file kinds, each with its own fixed numbers.
+-- The file kinds: each is a form with its own name and numbers.
 use Prim.Native.Nat.{ℕ}
-use mathlib.Core.Bool.{cond}
-use lib.Dec.{eqb}
+use mathlib.Core.Bool.{Bool, true, false, cond}
+use mathlib.Core.List.{List, [], _∷_}
+use lib.Dec.{eqb, ltb}
+use lib.ListN.{length, getD}
+use Rattle.laws.specs.Least.{least}
+use Rattle.kinds.specs.declared.of_files.Form.{Form}
+use Rattle.kinds.specs.declared.of_files.Form.the-variants.{EnrolmentRequest, EnrolmentResult, DebitRequest, DebitResult}
+use Rattle.kinds.specs.declared.of_files.Own.{Own}
 use Rattle.kinds.specs.declared.of_files.Kind.{Kind}
-use Rattle.kinds.specs.declared.of_files.Kind.the-variants.{EB13, EB14, EB21, EB22}
 use Rattle.kinds.specs.declared.of_files.Named.{Named}
 use Rattle.kinds.specs.declared.of_files.Named.the-variants.{Is, Unknown}
 use Rattle.kinds.specs.declared.of_files.Fixed.{Fixed}
@@ -16,27 +21,80 @@ limit = 430
 abbrev pub front : ℕ
 front = 19
 
--- EB13 and EB14: records of 120 bytes, bodies of 101; the key is items 5 and 6, reported as item 6
-abbrev pub enrolment : ℕ → Fixed
-enrolment name =
-    record { name = name; size = 120; body = 101; key = record { item = 6; start = 25; size = 21 }; least = 0 }
+-- what a kind has of its own: its four letters as one number, and the least amount that may be asked
+abbrev pub own : ℕ → ℕ → Own
+own name least = record { name = name; least = least }
 
--- EB21 and EB22: records of 150 bytes, bodies of 131; the key is items 11 and 12, reported as item 11
-abbrev pub debit : ℕ → ℕ → Fixed
-debit name least =
-    record { name = name; size = 150; body = 131; key = record { item = 11; start = 91; size = 25 }; least = least }
+abbrev pub ownEB13 : Own
+ownEB13 = own 0x45423133 0
 
--- a kind's name is its four letters as one number; only a debit request has a least amount
+abbrev pub ownEB14 : Own
+ownEB14 = own 0x45423134 0
+
+abbrev pub ownEB21 : Own
+ownEB21 = own 0x45423231 140
+
+abbrev pub ownEB22 : Own
+ownEB22 = own 0x45423232 0
+
+-- a form with it
+abbrev pub kind : Form → Own → Kind
+kind form o = record { form = form; own = o }
+
+abbrev pub EB13 : Kind
+EB13 = kind EnrolmentRequest ownEB13
+
+abbrev pub EB14 : Kind
+EB14 = kind EnrolmentResult ownEB14
+
+abbrev pub EB21 : Kind
+EB21 = kind DebitRequest ownEB21
+
+abbrev pub EB22 : Kind
+EB22 = kind DebitResult ownEB22
+
+-- all kinds
+unfoldable pub kinds : List Kind
+kinds = EB13 ∷ EB14 ∷ EB21 ∷ EB22 ∷ []
+
+-- records of 120 bytes, bodies of 101; the key is items 5 and 6, reported as item 6; headers agree in items 3 and 5
+abbrev pub enrolment : Bool → Fixed
+enrolment written =
+    record { size = 120; body = 101; key = record { item = 6; start = 25; size = 21 }; item6 = 0; item7 = 0; mark = 91; agreed = 2; written = written }
+
+-- records of 150 bytes, bodies of 131; the key is items 11 and 12, reported as item 11; headers agree in items 6 and 7 too
+abbrev pub debit : Bool → Fixed
+debit written =
+    record { size = 150; body = 131; key = record { item = 11; start = 91; size = 25 }; item6 = 7; item7 = 16; mark = 68; agreed = 4; written = written }
+
+-- the fixed numbers of each form; requests are written
+abbrev pub fixedFor : Form → Fixed
+fixedFor EnrolmentRequest = enrolment true
+fixedFor EnrolmentResult = enrolment false
+fixedFor DebitRequest = debit true
+fixedFor DebitResult = debit false
+
 abbrev pub fixedOf : Kind → Fixed
-fixedOf EB13 = enrolment 0x45423133
-fixedOf EB14 = enrolment 0x45423134
-fixedOf EB21 = debit 0x45423231 140
-fixedOf EB22 = debit 0x45423232 0
+fixedOf k = fixedFor (k .form)
+
+-- kind i of them, none past the last, and whether it has this name
+abbrev pub noKind : Kind
+noKind = kind EnrolmentRequest (own 0 0)
+
+unfoldable pub kindFrom : ℕ → Named
+kindFrom i = cond (ltb i (length kinds)) (Is (getD kinds i noKind)) Unknown
+
+unfoldable pub nameIs : ℕ → ℕ → Bool
+nameIs n i = eqb (getD kinds i noKind .own .name) n
 
 -- the kind that a number names; every other number is an unknown kind
 unfoldable pub kindOf : ℕ → Named
-kindOf n =
-    cond (eqb n 0x45423133) (Is EB13)
-    (cond (eqb n 0x45423134) (Is EB14)
-    (cond (eqb n 0x45423231) (Is EB21)
-    (cond (eqb n 0x45423232) (Is EB22) Unknown)))
+kindOf n = kindFrom (least (nameIs n) (length kinds))
+
+-- the same of kinds that are written: every other number is none of them
+abbrev pub written : Named → Named
+written (Is k) = cond (fixedOf k .written) (Is k) Unknown
+written Unknown = Unknown
+
+unfoldable pub requestOf : ℕ → Named
+requestOf n = written (kindOf n)

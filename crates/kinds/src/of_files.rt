@@ -1,16 +1,76 @@
-// The file kinds, each with its own fixed numbers.
+// The file kinds: each is a form with its own name and numbers.
 ghost use mathlib.Core.Path.{_≡_};
-ghost use Rattle.kinds.specs.Kinds.{kindOf, fixedOf, enrolment, debit};
+ghost use Rattle.kinds.specs.Kinds.{kindOf, requestOf, fixedOf, enrolment, debit};
 
 // The most data records that a file may have.
 pub const LIMIT: usize = 430;
 
-pub enum Kind {
-    EB13,
-    EB14,
-    EB21,
-    EB22,
+// What several kinds share: the layout of the records and what goes with it.
+pub enum Form {
+    EnrolmentRequest,
+    EnrolmentResult,
+    DebitRequest,
+    DebitResult,
 }
+
+// What a kind has of its own.
+pub struct Own {
+    // its four letters as one number
+    pub name: u64,
+    // the least amount that may be asked, but for type "1"
+    pub least: u64,
+}
+
+impl Own {
+    pub const EB13: Own = Own {
+        name: 0x4542_3133,
+        least: 0,
+    };
+
+    pub const EB14: Own = Own {
+        name: 0x4542_3134,
+        least: 0,
+    };
+
+    pub const EB21: Own = Own {
+        name: 0x4542_3231,
+        least: 140,
+    };
+
+    pub const EB22: Own = Own {
+        name: 0x4542_3232,
+        least: 0,
+    };
+}
+
+pub struct Kind {
+    pub form: Form,
+    pub own: Own,
+}
+
+impl Kind {
+    pub const EB13: Kind = Kind {
+        form: Form::EnrolmentRequest,
+        own: Own::EB13,
+    };
+
+    pub const EB14: Kind = Kind {
+        form: Form::EnrolmentResult,
+        own: Own::EB14,
+    };
+
+    pub const EB21: Kind = Kind {
+        form: Form::DebitRequest,
+        own: Own::EB21,
+    };
+
+    pub const EB22: Kind = Kind {
+        form: Form::DebitResult,
+        own: Own::EB22,
+    };
+}
+
+const KINDS: [Kind; 4] = [Kind::EB13, Kind::EB14, Kind::EB21, Kind::EB22];
 
 // What a number says of a kind.
 pub enum Named {
@@ -32,16 +92,22 @@ pub struct Key {
     pub size: usize,
 }
 
+// The fixed numbers of a form.
 pub struct Fixed {
-    // the kind's four letters as one number
-    pub name: u64,
     // bytes of a record
     pub size: usize,
     // bytes of a body: a data record without items 1 to 3
     pub body: usize,
     pub key: Key,
-    // the least amount that may be asked, but for type "1"
-    pub least: u64,
+    // bytes of the header's items 6 and 7, where the writer is given them
+    pub item6: usize,
+    pub item7: usize,
+    // where a result's mark stands in its record; its code follows
+    pub mark: usize,
+    // how many items of a request's and its result's header must agree
+    pub agreed: usize,
+    // whether a file of this form is written
+    pub written: bool,
 }
 
 impl Fixed {
@@ -52,56 +118,61 @@ impl Fixed {
 
     pub const DEBIT_SIZE: usize = 150;
 
-    pub const EB13: u64 = 0x4542_3133;
+    pub const ENROLMENT_BODY: usize = 101;
 
-    pub const EB14: u64 = 0x4542_3134;
+    pub const DEBIT_BODY: usize = 131;
 
-    pub const EB21: u64 = 0x4542_3231;
+    pub const ENROLMENT_KEY: Key = Key {
+        item: 6,
+        start: 25,
+        size: 21,
+    };
 
-    pub const EB22: u64 = 0x4542_3232;
+    pub const DEBIT_KEY: Key = Key {
+        item: 11,
+        start: 91,
+        size: 25,
+    };
 
-    pub const LEAST: u64 = 140;
-
-    fn enrolment(name: u64) -> Self
-        ensures { λ r. ⌜ r ≡ enrolment name ⌝ }
+    fn enrolment(written: bool) -> Self
+        ensures { λ r. ⌜ r ≡ enrolment written ⌝ }
     {
         Fixed {
-            name,
             size: Fixed::ENROLMENT_SIZE,
-            body: Fixed::ENROLMENT_SIZE - Fixed::FRONT,
-            key: Key {
-                item: 6,
-                start: 25,
-                size: 21,
-            },
-            least: 0,
+            body: Fixed::ENROLMENT_BODY,
+            key: Fixed::ENROLMENT_KEY,
+            item6: 0,
+            item7: 0,
+            mark: 91,
+            agreed: 2,
+            written,
         }
     }
 
-    fn debit(name: u64, least: u64) -> Self
-        ensures { λ r. ⌜ r ≡ debit name least ⌝ }
+    fn debit(written: bool) -> Self
+        ensures { λ r. ⌜ r ≡ debit written ⌝ }
     {
         Fixed {
-            name,
             size: Fixed::DEBIT_SIZE,
-            body: Fixed::DEBIT_SIZE - Fixed::FRONT,
-            key: Key {
-                item: 11,
-                start: 91,
-                size: 25,
-            },
-            least,
+            body: Fixed::DEBIT_BODY,
+            key: Fixed::DEBIT_KEY,
+            item6: 7,
+            item7: 16,
+            mark: 68,
+            agreed: 4,
+            written,
         }
     }
 
     pub fn of(kind: Kind) -> Self
         ensures { λ r. ⌜ r ≡ fixedOf kind ⌝ }
     {
-        match kind {
-            Kind::EB13 => Fixed::enrolment(Fixed::EB13),
-            Kind::EB14 => Fixed::enrolment(Fixed::EB14),
-            Kind::EB21 => Fixed::debit(Fixed::EB21, Fixed::LEAST),
-            Kind::EB22 => Fixed::debit(Fixed::EB22, 0),
+        let form = kind.form;
+        match form {
+            Form::EnrolmentRequest => Fixed::enrolment(true),
+            Form::EnrolmentResult => Fixed::enrolment(false),
+            Form::DebitRequest => Fixed::debit(true),
+            Form::DebitResult => Fixed::debit(false),
         }
     }
 
@@ -117,11 +188,29 @@ impl Fixed {
 pub fn kind_of(name: u64) -> Named
     ensures { λ r. ⌜ r ≡ kindOf name ⌝ }
 {
-    match name {
-        Fixed::EB13 => Named::Is(Kind::EB13),
-        Fixed::EB14 => Named::Is(Kind::EB14),
-        Fixed::EB21 => Named::Is(Kind::EB21),
-        Fixed::EB22 => Named::Is(Kind::EB22),
-        _ => Named::Unknown,
+    let mut i = 0;
+    while i < KINDS.len() {
+        let kind = KINDS[i];
+        if kind.own.name == name {
+            return Named::Is(kind);
+        }
+        i += 1;
+    }
+    Named::Unknown
+}
+
+// The same where files of the kind are written.
+pub fn request_of(name: u64) -> Named
+    ensures { λ r. ⌜ r ≡ requestOf name ⌝ }
+{
+    let named = kind_of(name);
+    match named {
+        Named::Is(kind) => {
+            if Fixed::of(kind).written {
+                return Named::Is(kind);
+            }
+            Named::Unknown
+        }
+        Named::Unknown => Named::Unknown,
     }
 }

@@ -1,13 +1,37 @@
-// The pair kinds, each with its own fixed terms.
+// The pair kinds: each is a family with what its request and its result have of their own.
 ghost use mathlib.Core.Path.{_≡_};
 ghost use Rattle.kinds.specs.Pairs.{requestKind, resultKind, pairOf};
-use crate::of_files::Fixed;
+use crate::of_files::Form;
 use crate::of_files::Kind;
+use crate::of_files::Own;
 
-pub enum PairKind {
+// What several pair kinds share.
+pub enum Family {
     Enrolment,
     Debit,
 }
+
+pub struct PairKind {
+    pub family: Family,
+    pub request: Own,
+    pub result: Own,
+}
+
+impl PairKind {
+    pub const ENROLMENT: PairKind = PairKind {
+        family: Family::Enrolment,
+        request: Own::EB13,
+        result: Own::EB14,
+    };
+
+    pub const DEBIT: PairKind = PairKind {
+        family: Family::Debit,
+        request: Own::EB21,
+        result: Own::EB22,
+    };
+}
+
+const PAIRS: [PairKind; 2] = [PairKind::ENROLMENT, PairKind::DEBIT];
 
 // What a number says of a pair kind.
 pub enum PairNamed {
@@ -18,18 +42,34 @@ pub enum PairNamed {
 pub fn request_kind(pair: PairKind) -> Kind
     ensures { λ r. ⌜ r ≡ requestKind pair ⌝ }
 {
-    match pair {
-        PairKind::Enrolment => Kind::EB13,
-        PairKind::Debit => Kind::EB21,
+    let family = pair.family;
+    let own = pair.request;
+    match family {
+        Family::Enrolment => Kind {
+            form: Form::EnrolmentRequest,
+            own,
+        },
+        Family::Debit => Kind {
+            form: Form::DebitRequest,
+            own,
+        },
     }
 }
 
 pub fn result_kind(pair: PairKind) -> Kind
     ensures { λ r. ⌜ r ≡ resultKind pair ⌝ }
 {
-    match pair {
-        PairKind::Enrolment => Kind::EB14,
-        PairKind::Debit => Kind::EB22,
+    let family = pair.family;
+    let own = pair.result;
+    match family {
+        Family::Enrolment => Kind {
+            form: Form::EnrolmentResult,
+            own,
+        },
+        Family::Debit => Kind {
+            form: Form::DebitResult,
+            own,
+        },
     }
 }
 
@@ -37,9 +77,13 @@ pub fn result_kind(pair: PairKind) -> Kind
 pub fn pair_of(name: u64) -> PairNamed
     ensures { λ r. ⌜ r ≡ pairOf name ⌝ }
 {
-    match name {
-        Fixed::EB13 => PairNamed::Is(PairKind::Enrolment),
-        Fixed::EB21 => PairNamed::Is(PairKind::Debit),
-        _ => PairNamed::Unknown,
+    let mut i = 0;
+    while i < PAIRS.len() {
+        let pair = PAIRS[i];
+        if pair.request.name == name {
+            return PairNamed::Is(pair);
+        }
+        i += 1;
     }
+    PairNamed::Unknown
 }

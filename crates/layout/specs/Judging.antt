@@ -6,6 +6,7 @@ use lib.Dec.{eqb}
 use lib.ListN.{length, getD}
 use Rattle.answers.specs.declared.told.Answer.{Answer}
 use Rattle.kinds.specs.declared.of_files.Kind.{Kind}
+use Rattle.kinds.specs.declared.of_files.Own.{Own}
 use Rattle.kinds.specs.declared.of_files.Role.{Role}
 use Rattle.tables.specs.declared.rows.Row.{Row}
 use Rattle.answers.specs.Answers.{accepted, refusedAt, firstTold}
@@ -18,12 +19,13 @@ abbrev pub brokenAt : ℕ → Row → Answer
 brokenAt n r = refusedAt (cond (eqb (r .4) 0x30303030) 5 4) n (r .0) (r .4)
 
 -- what is told of row i
-unfoldable pub rowTells : Kind → List Row → List ℕ → List ℕ → ℕ → ℕ → Answer
-rowTells k rows rec header n i = cond (holds k rec header n (getD rows i blank)) accepted (brokenAt n (getD rows i blank))
+unfoldable pub rowTells : Own → List Row → List ℕ → List ℕ → ℕ → ℕ → Answer
+rowTells o rows rec header n i = cond (holds o rec header n (getD rows i blank)) accepted (brokenAt n (getD rows i blank))
 
--- what is told of record n: the first row in table order that does not hold
-unfoldable pub judgeBy : Kind → List Row → List ℕ → List ℕ → ℕ → Answer
-judgeBy k rows rec header n = firstTold (rowTells k rows rec header n) (length rows)
+-- what is told of record n by any rows: the first in table order that does not hold
+unfoldable pub judgeBy : Own → List Row → List ℕ → List ℕ → ℕ → Answer
+judgeBy o rows rec header n = firstTold (rowTells o rows rec header n) (length rows)
 
+-- and by the rows of its kind
 unfoldable pub judgeOf : Kind → Role → List ℕ → List ℕ → ℕ → Answer
-judgeOf k role rec header n = judgeBy k (rowsOf k role) rec header n
+judgeOf k role rec header n = judgeBy (k .own) (rowsOf k role) rec header n

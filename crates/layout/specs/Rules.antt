@@ -8,11 +8,10 @@ use Rattle.laws.specs.Part.{part, same}
 use Rattle.text.specs.Characters.{each, codeText, filled, digits, zeros}
 use Rattle.numbers.specs.Numbers.{says, wordOf}
 use Rattle.numbers.specs.Dates.{isDate, notLater}
-use Rattle.kinds.specs.declared.of_files.Kind.{Kind}
+use Rattle.kinds.specs.declared.of_files.Own.{Own}
 use Rattle.tables.specs.declared.rows.Row.{Row}
 use Rattle.tables.specs.declared.rows.Class.{Class}
 use Rattle.tables.specs.declared.rows.Class.the-variants.{Each, CodeText, Filled, Owner, Institution, KindName, Date, NameDate, Serial, AsHeader, NotLater, Application, NotZero, Failed, FailedOrPart, Least}
-use Rattle.kinds.specs.Kinds.{fixedOf}
 use Rattle.tables.specs.Codes.{isTableCode}
 use Rattle.layout.specs.Items.{dateOf, nameDay, amountOf, applicationOf}
 
@@ -40,25 +39,25 @@ partly item = eqb (getD item 0 0) 0x50 && (isTableCode (wordOf (drop 1 item)) ||
 unfoldable pub enough : ℕ → List ℕ → List ℕ → Bool
 enough least item rec = eqb (getD item 0 0) 0x31 || leb least (amountOf rec)
 
--- the class holds: of the item, the header's bytes at its place, the record, the header and the record's number
-unfoldable pub meets : Class → Kind → List ℕ → List ℕ → List ℕ → List ℕ → ℕ → Bool
-meets (Each low high) k item theirs rec header n = each low high item
-meets CodeText k item theirs rec header n = codeText item
-meets Filled k item theirs rec header n = filled item
-meets Owner k item theirs rec header n = owner item rec
-meets Institution k item theirs rec header n = institution item
-meets KindName k item theirs rec header n = eqb (wordOf item) (fixedOf k .name)
-meets Date k item theirs rec header n = isDate item
-meets NameDate k item theirs rec header n = same (drop 2 item) (nameDay rec)
-meets Serial k item theirs rec header n = says item n
-meets AsHeader k item theirs rec header n = same item theirs
-meets NotLater k item theirs rec header n = notLater item (dateOf header)
-meets Application k item theirs rec header n = application item
-meets NotZero k item theirs rec header n = not (zeros item)
-meets Failed k item theirs rec header n = failed item
-meets FailedOrPart k item theirs rec header n = failed item || partly item
-meets Least k item theirs rec header n = enough (fixedOf k .least) item rec
+-- the class holds: of what the kind has of its own, the item, the header's bytes at its place, the record, the header and the record's number
+unfoldable pub meets : Class → Own → List ℕ → List ℕ → List ℕ → List ℕ → ℕ → Bool
+meets (Each low high) o item theirs rec header n = each low high item
+meets CodeText o item theirs rec header n = codeText item
+meets Filled o item theirs rec header n = filled item
+meets Owner o item theirs rec header n = owner item rec
+meets Institution o item theirs rec header n = institution item
+meets KindName o item theirs rec header n = eqb (wordOf item) (o .name)
+meets Date o item theirs rec header n = isDate item
+meets NameDate o item theirs rec header n = same (drop 2 item) (nameDay rec)
+meets Serial o item theirs rec header n = says item n
+meets AsHeader o item theirs rec header n = same item theirs
+meets NotLater o item theirs rec header n = notLater item (dateOf header)
+meets Application o item theirs rec header n = application item
+meets NotZero o item theirs rec header n = not (zeros item)
+meets Failed o item theirs rec header n = failed item
+meets FailedOrPart o item theirs rec header n = failed item || partly item
+meets Least o item theirs rec header n = enough (o .least) item rec
 
 -- the row's rule holds in a record
-unfoldable pub holds : Kind → List ℕ → List ℕ → ℕ → Row → Bool
-holds k rec header n r = meets (r .3) k (part (r .1) (r .2) rec) (part (r .1) (r .2) header) rec header n
+unfoldable pub holds : Own → List ℕ → List ℕ → ℕ → Row → Bool
+holds o rec header n r = meets (r .3) o (part (r .1) (r .2) rec) (part (r .1) (r .2) header) rec header n

@@ -5,8 +5,7 @@ ghost use Prim.Native.Nat.{_+_, _≤_};
 ghost use lib.ListN.{length};
 ghost use Rattle.layout.specs.Rules.{owner, institution, application, failed, partly, enough, holds};
 use crate::items;
-use kinds::of_files::Fixed;
-use kinds::of_files::Kind;
+use kinds::of_files::Own;
 use numbers::base_ten;
 use numbers::dates;
 use tables::codes;
@@ -70,12 +69,12 @@ fn enough(least: u64, item: &[u8], rec: &[u8]) -> bool
 }
 
 // The row's rule holds in a record.
-pub(crate) fn holds(kind: Kind, row: Row, rec: &[u8], header: &[u8], number: u64) -> bool
+pub(crate) fn holds(own: Own, row: Row, rec: &[u8], header: &[u8], number: u64) -> bool
     requires { ⌜ row .1 + row .2 ≤ length (now rec) ⌝ }
     requires { ⌜ row .1 + row .2 ≤ length (now header) ⌝ }
     requires { ⌜ 55 ≤ length (now rec) ⌝ }
     requires { ⌜ 55 ≤ length (now header) ⌝ }
-    ensures { λ r. ⌜ r ≡ holds kind (now (rec .entry)) (now (header .entry)) number row ⌝ }
+    ensures { λ r. ⌜ r ≡ holds own (now (rec .entry)) (now (header .entry)) number row ⌝ }
 {
     let item = parts::part(rec, row.1, row.2);
     let class = row.3;
@@ -85,7 +84,7 @@ pub(crate) fn holds(kind: Kind, row: Row, rec: &[u8], header: &[u8], number: u64
         Class::Filled => characters::filled(item),
         Class::Owner => owner(item, rec),
         Class::Institution => institution(item),
-        Class::KindName => base_ten::word(item) == Fixed::of(kind).name,
+        Class::KindName => base_ten::word(item) == own.name,
         Class::Date => dates::date(item),
         Class::NameDate => parts::same(parts::rest(item, 2), parts::part(rec, 23, 4)),
         Class::Serial => base_ten::says(item, number),
@@ -95,6 +94,6 @@ pub(crate) fn holds(kind: Kind, row: Row, rec: &[u8], header: &[u8], number: u64
         Class::NotZero => !characters::each(b'0', b'0', item),
         Class::Failed => failed(item),
         Class::FailedOrPart => failed(item) || partly(item),
-        Class::Least => enough(Fixed::of(kind).least, item, rec),
+        Class::Least => enough(own.least, item, rec),
     }
 }

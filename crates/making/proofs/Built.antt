@@ -171,7 +171,3 @@ file-length k h bodies =
       suc-mul,
       suc-mul,
     ) (omega arith)
-
--- a file at the front of a frame is its first bytes
-pub file-front : (k : Kind) (h : Head) (bodies rest : List ℕ) → take ((bodyCount k bodies + 2) * fixedOf k .size) (fileOf k h bodies ++ rest) ≡ fileOf k h bodies
-file-front k h bodies rest = take-at (fileOf k h bodies) rest ((bodyCount k bodies + 2) * fixedOf k .size) (file-length k h bodies)

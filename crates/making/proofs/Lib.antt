@@ -5,3 +5,4 @@ pub mod Lengths
 pub mod Sizes
 pub mod Stores
 pub mod Built
+pub mod Bodies

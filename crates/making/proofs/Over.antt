@@ -6,6 +6,7 @@ use mathlib.Core.List.{List, [], _∷_}
 use mathlib.Core.Path.{_≡_, refl, ap, sym, _∙_}
 use mathlib.Core.Logic.{⊎-elim}
 use native.Mathlib.Nat.{le-add-right, le-trans, le-of-suc-le-suc, eq-or-lt-of-le, not-suc-le-zero}
+use native.Mathlib.Numerals.{add-one}
 use native.Mathlib.Omega.{arith}
 use borrow.Author.Tests.{leb-true, ltb-true, le-leb, lt-ltb, le-ltb, ltb-false, eqb-true}
 use lib.Dec.{leb, ltb, eqb}
@@ -14,15 +15,16 @@ use Rattle.laws.specs.Least.{further, least, none}
 use Rattle.laws.proofs.Bools.{and-left, and-right, or-cases, either}
 use Rattle.laws.proofs.Leasts.{Least, least-is, least-none, least-some, least-stop, none-each}
 use Rattle.kinds.specs.declared.of_files.Kind.{Kind}
-use Rattle.kinds.specs.declared.of_files.Kind.the-variants.{EB13, EB14, EB21, EB22}
 use Rattle.kinds.specs.declared.of_files.Role.{Role}
 use Rattle.kinds.specs.declared.of_files.Role.the-variants.{Data}
 use Rattle.tables.specs.declared.rows.Row.{Row}
 use Rattle.kinds.specs.Kinds.{fixedOf}
 use Rattle.tables.specs.Rows.{blank, next, tilesFrom, tiles}
-use Rattle.tables.specs.Tables.{dataFront, enrolmentData, debitData, eb13Data, eb14Data, eb21Data, eb22Data, rowsOf}
+use Rattle.tables.specs.Tables.{dataFront, enrolmentData, debitData, enrolmentRequestData, enrolmentResultData, debitRequestData, debitResultData, rowsFor, rowsOf}
+use Rattle.tables.proofs.Fronts.{front-row}
+use Rattle.kinds.proofs.Forms.{of-form}
 use Rattle.tables.proofs.Tiling.{rows-tile}
-use Rattle.rows.specs.Laid.{most, laidOut}
+use Rattle.rows.specs.Laid.{most, laid, laidOut}
 use Rattle.rows.proofs.Laying.{laid-length, first-laid, rows-fit}
 use Rattle.making.specs.Bytes.{overRow, over, rowOver}
 use Rattle.making.proofs.Rows.{laid-small}
@@ -127,42 +129,6 @@ starts-rise whole item start size (r ∷ rows) t zero (suc i) l h =
 starts-rise whole item start size (r ∷ rows) t (suc m) (suc i) l h =
     starts-rise whole (r .0) (r .1) (r .2) rows (and-right (next r item start size) _ t) m i (le-of-suc-le-suc l) (le-of-suc-le-suc h)
 
--- a row that began, and is not over a place, has ended
-ended : (r : Row) (j : ℕ) → r .1 ≤ j → overRow r j ≡ false → r .1 + r .2 ≤ j
-unfolding overRow
-ended r j a f = ltb-false j (r .1 + r .2) (rw (le-leb (r .1) j a) at f)
-
--- so the row over a place is the one over the next place too, if it is over it
-pub row-stays : (k : Kind) (role : Role) (j : ℕ) → overRow (rowOver (rowsOf k role) j) (j + 1) ≡ true → rowOver (rowsOf k role) j ≡ rowOver (rowsOf k role) (j + 1)
-unfolding tiles rowOver over
-row-stays k role j t = ⊎-elim past found (eq-or-lt-of-le (l .within))
-  where
-    rows : List Row
-    rows = rowsOf k role
-
-    i : ℕ
-    i = least (over rows j) (length rows)
-
-    l : Least (over rows j) (length rows) i
-    l = least-is (over rows j) (length rows)
-
-    past : i ≡ length rows → rowOver rows j ≡ rowOver rows (j + 1)
-    past e = absurd (omega (arith, over-high blank (j + 1) (ap (λ (r : Row). overRow r (j + 1)) (sym none-over) ∙ t)))
-      where
-        none-over : getD rows i blank ≡ blank
-        none-over = List·getD-eq-default rows blank (omega arith)
-
-    found : i < length rows → rowOver rows j ≡ rowOver rows (j + 1)
-    found h =
-        ap (λ (m : ℕ). getD rows m blank)
-        (sym (least-stop (over rows (j + 1)) i (length rows) h (least-none (over rows (j + 1)) i before) t))
-      where
-        before : (m : ℕ) → m < i → over rows (j + 1) m ≡ false
-        before m b =
-            let rise = starts-rise (fixedOf k .size) 0 0 0 rows (rows-tile k role) m i b h in
-            over-past (getD rows m blank) (j + 1)
-            (omega (arith, ended (getD rows m blank) j (omega (arith, rise, over-low (getD rows i blank) j (l .holds h))) (l .before m b)))
-
 -- row m ends past the start of row i
 unfoldable pub endsPast : List Row → ℕ → ℕ → Bool
 endsPast rows i m = ltb (getD rows i blank .1) (getD rows m blank .1 + getD rows m blank .2)
@@ -193,27 +159,26 @@ over-of rows i j r t e a b =
     place : j ≡ getD rows i blank .1 + (j - getD rows i blank .1)
     place = rw e (omega arith)
 
--- the rows of items 1 to 3 are over their places in each kind
+-- the rows of items 1 to 3 begin one after the other in each form
+front-starts : (k : Kind) (i : ℕ) → i < 3 → starts (rowsOf k Data) i ≡ true
+unfolding starts endsPast none least further enrolmentRequestData enrolmentResultData enrolmentData debitRequestData debitResultData debitData dataFront
+front-starts k zero h = of-form (λ f. starts (rowsFor f Data) 0) refl (k .form)
+front-starts k (suc zero) h = of-form (λ f. starts (rowsFor f Data) 1) refl (k .form)
+front-starts k (suc (suc zero)) h = of-form (λ f. starts (rowsFor f Data) 2) refl (k .form)
+front-starts k (suc (suc (suc i))) h = absurd (omega arith)
+
+-- so they are over their places
 pub front-first : (k : Kind) (j : ℕ) → j < 1 → getD dataFront 0 blank ≡ rowOver (rowsOf k Data) j
-unfolding starts endsPast none least further eb13Data eb14Data enrolmentData eb21Data eb22Data debitData dataFront
-front-first EB13 j h = sym (over-of (rowsOf EB13 Data) 0 j (getD dataFront 0 blank) refl refl (omega arith) h)
-front-first EB14 j h = sym (over-of (rowsOf EB14 Data) 0 j (getD dataFront 0 blank) refl refl (omega arith) h)
-front-first EB21 j h = sym (over-of (rowsOf EB21 Data) 0 j (getD dataFront 0 blank) refl refl (omega arith) h)
-front-first EB22 j h = sym (over-of (rowsOf EB22 Data) 0 j (getD dataFront 0 blank) refl refl (omega arith) h)
+unfolding dataFront
+front-first k j h = sym (over-of (rowsOf k Data) 0 j (getD dataFront 0 blank) (front-starts k 0 (omega arith)) (front-row k Data 0 (omega arith)) (omega arith) h)
 
 pub front-second : (k : Kind) (j : ℕ) → 1 ≤ j → j < 9 → getD dataFront 1 blank ≡ rowOver (rowsOf k Data) j
-unfolding starts endsPast none least further eb13Data eb14Data enrolmentData eb21Data eb22Data debitData dataFront
-front-second EB13 j g h = sym (over-of (rowsOf EB13 Data) 1 j (getD dataFront 1 blank) refl refl g h)
-front-second EB14 j g h = sym (over-of (rowsOf EB14 Data) 1 j (getD dataFront 1 blank) refl refl g h)
-front-second EB21 j g h = sym (over-of (rowsOf EB21 Data) 1 j (getD dataFront 1 blank) refl refl g h)
-front-second EB22 j g h = sym (over-of (rowsOf EB22 Data) 1 j (getD dataFront 1 blank) refl refl g h)
+unfolding dataFront
+front-second k j g h = sym (over-of (rowsOf k Data) 1 j (getD dataFront 1 blank) (front-starts k 1 (omega arith)) (front-row k Data 1 (omega arith)) g h)
 
 pub front-third : (k : Kind) (j : ℕ) → 9 ≤ j → j < 19 → getD dataFront 2 blank ≡ rowOver (rowsOf k Data) j
-unfolding starts endsPast none least further eb13Data eb14Data enrolmentData eb21Data eb22Data debitData dataFront
-front-third EB13 j g h = sym (over-of (rowsOf EB13 Data) 2 j (getD dataFront 2 blank) refl refl g h)
-front-third EB14 j g h = sym (over-of (rowsOf EB14 Data) 2 j (getD dataFront 2 blank) refl refl g h)
-front-third EB21 j g h = sym (over-of (rowsOf EB21 Data) 2 j (getD dataFront 2 blank) refl refl g h)
-front-third EB22 j g h = sym (over-of (rowsOf EB22 Data) 2 j (getD dataFront 2 blank) refl refl g h)
+unfolding dataFront
+front-third k j g h = sym (over-of (rowsOf k Data) 2 j (getD dataFront 2 blank) (front-starts k 2 (omega arith)) (front-row k Data 2 (omega arith)) g h)
 
 -- the rows laid out have the same row over a place
 pub over-laid : (rows : List Row) → length rows ≤ most → (j : ℕ) → rowOver (laidOut rows) j ≡ rowOver rows j
@@ -237,6 +202,61 @@ module _ (k : Kind) (role : Role) (rows : List Row) (laid : rows ≡ laidOut (ro
   unfolding over rowOver
   laid-stop i h e t = rw (least-stop (over rows j) i (length rows) (omega (arith, laid-length k role rows laid)) e t) at same-row
 
-  pub laid-end : least (over rows j) most ≡ most → blank ≡ rowOver (rowsOf k role) j
-  unfolding rowOver
-  laid-end e = sym (List·getD-eq-default rows blank (omega (arith, laid-length k role rows laid))) ∙ (rw (laid-length k role rows laid, e) at same-row)
+-- a walk over the rows that are laid out, place by place: the rows before row i end at or before place j
+abbrev pub Ended : List Row → ℕ → ℕ → Type 0
+Ended rows i j = (m : ℕ) → m < i → getD rows m blank .1 + getD rows m blank .2 ≤ j
+
+pub ended-none : (rows : List Row) (j : ℕ) → Ended rows 0 j
+ended-none rows j m l = absurd (not-suc-le-zero l)
+
+pub ended-place : (rows : List Row) (i j : ℕ) → Ended rows i j → Ended rows i (j + 1)
+ended-place rows i j e m l = omega (arith, e m l)
+
+pub ended-row : (rows : List Row) (i j : ℕ) → Ended rows i j → getD rows i blank .1 + getD rows i blank .2 ≤ j → Ended rows (i + 1) j
+ended-row rows i j e h m l = ⊎-elim (λ q. rw q h) (λ b. e m b) (eq-or-lt-of-le (le-of-suc-le-suc (rw (add-one i) at l)))
+
+-- row i of the rows laid out is row i of the rows
+laid-place : (n : ℕ) (rows : List Row) → length rows ≤ n → (i : ℕ) → getD (laid n rows) i blank ≡ getD rows i blank
+unfolding laid
+laid-place zero [] h i = refl
+laid-place zero (r ∷ rows) h i = absurd (not-suc-le-zero h)
+laid-place (suc n) [] h zero = refl
+laid-place (suc n) [] h (suc i) = laid-place n [] zero-le i
+laid-place (suc n) (r ∷ rows) h zero = refl
+laid-place (suc n) (r ∷ rows) h (suc i) = laid-place n rows (le-of-suc-le-suc h) i
+
+module _ (k : Kind) (role : Role) (rows : List Row) (laid-out : rows ≡ laidOut (rowsOf k role)) (i j : ℕ) (h : j < fixedOf k .size) (e : Ended rows i j) where
+  same-at : (m : ℕ) → getD rows m blank ≡ getD (rowsOf k role) m blank
+  unfolding laidOut
+  same-at m = rw laid-out (laid-place most (rowsOf k role) (rows-fit k role) m)
+
+  -- a row over place j, which is not before row i
+  abbrev m : ℕ
+  m = row-over k role j h .0
+
+  abbrev o : Over (rowsOf k role) j m
+  o = row-over k role j h .1
+
+  no-later : i ≤ m
+  no-later =
+      ⊎-elim (λ t. absurd (omega (arith, rw (same-at m) at (e m (ltb-true m i t)), o .high))) (λ f. ltb-false m i f)
+      (either (ltb m i))
+
+  -- so there is a row i, and it began
+  pub walk-inside : i < most
+  walk-inside = omega (arith, no-later, o .inside, rows-fit k role)
+
+  begun : getD rows i blank .1 ≤ j
+  unfolding tiles
+  begun =
+      rw (same-at i)
+      (⊎-elim (λ q. rw q (o .low)) (λ l. le-trans (starts-rise (fixedOf k .size) 0 0 0 (rowsOf k role) (rows-tile k role) i m l (o .inside)) (o .low))
+      (eq-or-lt-of-le no-later))
+
+  -- and where it has not ended it is the row over place j
+  pub walk-row : j < getD rows i blank .1 + getD rows i blank .2 → getD rows i blank ≡ rowOver (rowsOf k role) j
+  unfolding over
+  walk-row l =
+      laid-stop k role rows laid-out j i walk-inside
+      (least-none (over rows j) i (λ m b. over-past (getD rows m blank) j (e m b)))
+      (over-if (getD rows i blank) j begun l)

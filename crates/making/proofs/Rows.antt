@@ -2,39 +2,34 @@
 -- Assumes nothing.
 use Prim.Native.Nat.{ℕ, _+_, _*_, _≤_, _<_}
 use mathlib.Core.List.{List}
-use mathlib.Core.Path.{_≡_}
+use mathlib.Core.Path.{_≡_, refl}
+use native.Mathlib.Nat.{mul-le-mul}
 use native.Mathlib.Omega.{arith}
+use borrow.Author.Tests.{leb-true}
+use lib.Dec.{leb}
 use lib.ListN.{length, getD}
 use Rattle.kinds.specs.declared.of_files.Kind.{Kind}
-use Rattle.kinds.specs.declared.of_files.Kind.the-variants.{EB13, EB14, EB21, EB22}
 use Rattle.kinds.specs.declared.of_files.Role.{Role}
 use Rattle.tables.specs.declared.rows.Row.{Row}
-use Rattle.kinds.specs.Kinds.{fixedOf}
+use Rattle.kinds.specs.Kinds.{fixedFor, fixedOf}
+use Rattle.kinds.proofs.Forms.{of-form}
 use Rattle.tables.specs.Rows.{blank}
 use Rattle.tables.specs.Tables.{rowsOf}
-use Rattle.tables.specs.Totals.{enrolmentTotals, eb21Totals, eb22Totals, totalsOf}
+use Rattle.tables.specs.Totals.{enrolmentTotals, debitRequestTotals, debitResultTotals, totalsFor, totalsOf}
 use Rattle.rows.specs.Laid.{laidOut}
 use Rattle.rows.proofs.Laying.{laid-inside}
+use Rattle.making.proofs.Sizes.{size-most}
 
-size-most : (k : Kind) → fixedOf k .size ≤ 150
-size-most EB13 = omega arith
-size-most EB14 = omega arith
-size-most EB21 = omega arith
-size-most EB22 = omega arith
-
+-- no record is longer than a debit's
 pub laid-small : (k : Kind) (role : Role) (rows : List Row) → rows ≡ laidOut (rowsOf k role) → (i : ℕ) → getD rows i blank .1 + getD rows i blank .2 < 1000
 laid-small k role rows laid i = omega (arith, laid-inside k role rows laid i, size-most k)
 
 -- a million bodies take less than 2 ^ 28 bytes
 pub body-fits : (k : Kind) (i : ℕ) → i < 1000000 → i * fixedOf k .body ≤ 131000000
-body-fits EB13 i h = omega arith
-body-fits EB14 i h = omega arith
-body-fits EB21 i h = omega arith
-body-fits EB22 i h = omega arith
+body-fits k i h =
+    mul-le-mul {n₁ = i} {m₁ = fixedOf k .body} {n₂ = 1000000} {m₂ = 131} (omega arith)
+    (leb-true (fixedOf k .body) 131 (of-form (λ f. leb (fixedFor f .body) 131) refl (k .form)))
 
 pub totals-few : (k : Kind) → length (totalsOf k) ≤ 5
-unfolding enrolmentTotals eb21Totals eb22Totals
-totals-few EB13 = omega arith
-totals-few EB14 = omega arith
-totals-few EB21 = omega arith
-totals-few EB22 = omega arith
+unfolding enrolmentTotals debitRequestTotals debitResultTotals
+totals-few k = leb-true (length (totalsOf k)) 5 (of-form (λ f. leb (length (totalsFor f)) 5) refl (k .form))

@@ -35,7 +35,7 @@ givenItem h item =
 
 -- what a row of the header writes at place j, and byte j of the header
 unfoldable pub headerFill : Kind → Head → Row → ℕ → ℕ
-headerFill k h r j = fillBy (r .3) (getD (givenItem h (r .0)) (j - r .1) 0) (letterOf (fixedOf k .name) (j - r .1)) 0 0
+headerFill k h r j = fillBy (r .3) (getD (givenItem h (r .0)) (j - r .1) 0) (letterOf (k .own .name) (j - r .1)) 0 0
 
 unfoldable pub headerByte : Kind → Head → ℕ → ℕ
 headerByte k h j = headerFill k h (rowOver (rowsOf k Header) j) j

@@ -1,7 +1,7 @@
 // The records of a file to be written, each built as its own bytes.
 ghost use mathlib.Core.Path.{_≡_};
-ghost use Prim.Native.Nat.{_+_, _-_, _<_};
-ghost use lib.ListN.{getD};
+ghost use Prim.Native.Nat.{_+_, _-_, _*_, _<_};
+ghost use lib.ListN.{length, getD};
 ghost use Rattle.kinds.specs.Kinds.{fixedOf};
 ghost use Rattle.tables.specs.Tables.{rowsOf};
 ghost use Rattle.making.specs.Bytes.{rowOver};
@@ -11,6 +11,7 @@ use kinds::of_files::Fixed;
 use kinds::of_files::Kind;
 use kinds::of_files::Role;
 use numbers::base_ten;
+use rows::by_record;
 use tables::rows::Row;
 use tables::totals;
 use text::parts;
@@ -61,32 +62,50 @@ fn header_byte(
 {
     let d = past(row.1, j);
     let given = given_byte(date, code, item6, item7, row.0, d);
-    let letter = base_ten::letter(Fixed::of(kind).name, d);
+    let letter = base_ten::letter(kind.own.name, d);
     let class = row.3;
     bytes::fill(class, given, letter, 0, 0)
 }
 
-// Byte j of data record i + 1: items 1 to 3 by their rows, then the body.
-fn data_byte(kind: Kind, header: &[u8], bodies: &[u8], i: usize, j: usize) -> u8
+// Byte j of items 1 to 3 of data record n, whatever the kind: "R", the serial, the header's own bytes.
+fn front_byte(header: &[u8], n: u64, j: usize) -> u8
+    requires { ⌜ j < 19 ⌝ }
+    ensures { λ r. ⌜ ((k : Kind) → r ≡ frontFill (rowOver (rowsOf k Role.Data) j) (now (header .entry)) n j) ⌝ }
+{
+    if j < 1 {
+        return b'R';
+    }
+    if j < 9 {
+        return base_ten::digit_at(n, 8, j - 1);
+    }
+    parts::byte(header, j)
+}
+
+// Byte j of data record i + 1, whose body begins at `from` of the bodies: items 1 to 3, then the body.
+fn data_byte(kind: Kind, header: &[u8], bodies: &[u8], i: usize, from: usize, j: usize) -> u8
     requires { ⌜ j < 1000 ⌝ }
     requires { ⌜ i < 1000000 ⌝ }
+    requires { ⌜ from ≡ i * fixedOf kind .body ⌝ }
     ensures { λ r. ⌜ r ≡ dataByte kind (now (header .entry)) (now (bodies .entry)) i j ⌝ }
 {
     if j < Fixed::FRONT {
         return front_byte(header, (i + 1) as u64, j);
     }
-    parts::byte(bodies, i * Fixed::of(kind).body + (j - Fixed::FRONT))
+    parts::byte(bodies, from + (j - Fixed::FRONT))
 }
 
-// Byte j of items 1 to 3 of data record n, whatever the kind.
-fn front_byte(header: &[u8], n: u64, j: usize) -> u8
-    requires { ⌜ j < 19 ⌝ }
-    ensures { λ r. ⌜ ((k : Kind) → r ≡ frontFill (rowOver (rowsOf k Role.Data) j) (now (header .entry)) n j) ⌝ }
+// Fills lent bytes with data record i + 1.
+fn fill_data(kind: Kind, header: &[u8], bodies: &[u8], i: usize, rec: &mut [u8])
+    requires { ⌜ length (now rec) ≡ fixedOf kind .size ⌝ }
+    requires { ⌜ i < 1000000 ⌝ }
+    ensures { λ _. ⌜ now (rec .exit) ≡ dataBuilt kind (now (header .entry)) (now (bodies .entry)) i ⌝ }
 {
-    let row = bytes::front_row(j);
-    let digit = base_ten::digit_at(n, row.2, past(row.1, j));
-    let class = row.3;
-    bytes::fill(class, 0, 0, digit, parts::byte(header, j))
+    let from = i * Fixed::of(kind).body;
+    let mut j = 0;
+    while j < rec.len() {
+        rec[j] = data_byte(kind, header, bodies, i, from, j);
+        j += 1;
+    }
 }
 
 // The total that an item of the trailer says.
@@ -121,6 +140,44 @@ fn trailer_byte(row: Row, kind: Kind, header: &[u8], sums: [u64; 5], j: usize) -
     bytes::fill(class, digit, 0, 0, theirs)
 }
 
+// Fills lent bytes with the header: each turn writes a byte by the row over it, or goes on to the next row.
+fn fill_header(kind: Kind, date: &[u8], code: &[u8], item6: &[u8], item7: &[u8], rec: &mut [u8])
+    requires { ⌜ length (now rec) ≡ fixedOf kind .size ⌝ }
+    ensures { λ _. ⌜ now (rec .exit) ≡ headerBuilt kind (headOf (now (date .entry)) (now (code .entry)) (now (item6 .entry)) (now (item7 .entry))) ⌝ }
+{
+    let rows = by_record::rows_of(kind, Role::Header);
+    let mut i = 0;
+    let mut j = 0;
+    while j < rec.len() {
+        let row = rows[i];
+        if j < row.1 + row.2 {
+            rec[j] = header_byte(row, kind, date, code, item6, item7, j);
+            j += 1;
+        } else {
+            i += 1;
+        }
+    }
+}
+
+// Fills lent bytes with the trailer, in the same way.
+fn fill_trailer(kind: Kind, header: &[u8], sums: [u64; 5], rec: &mut [u8])
+    requires { ⌜ length (now rec) ≡ fixedOf kind .size ⌝ }
+    ensures { λ _. ⌜ now (rec .exit) ≡ trailerBuilt kind (now (header .entry)) sums ⌝ }
+{
+    let rows = by_record::rows_of(kind, Role::Trailer);
+    let mut i = 0;
+    let mut j = 0;
+    while j < rec.len() {
+        let row = rows[i];
+        if j < row.1 + row.2 {
+            rec[j] = trailer_byte(row, kind, header, sums, j);
+            j += 1;
+        } else {
+            i += 1;
+        }
+    }
+}
+
 // The header as its own 120 bytes.
 pub(crate) fn header_120(
     kind: Kind,
@@ -133,13 +190,7 @@ pub(crate) fn header_120(
     ensures { λ r. ⌜ r ≡ headerBuilt kind (headOf (now (date .entry)) (now (code .entry)) (now (item6 .entry)) (now (item7 .entry))) ⌝ }
 {
     let mut rec = [0u8; 120];
-    let mut row = bytes::row_over(kind, Role::Header, 0);
-    let mut j = 0;
-    while j < 120 {
-        rec[j] = header_byte(row, kind, date, code, item6, item7, j);
-        row = bytes::next_row(kind, Role::Header, row, j);
-        j += 1;
-    }
+    fill_header(kind, date, code, item6, item7, &mut rec);
     rec
 }
 
@@ -150,11 +201,7 @@ pub(crate) fn data_120(kind: Kind, header: &[u8], bodies: &[u8], i: usize) -> [u
     ensures { λ r. ⌜ r ≡ dataBuilt kind (now (header .entry)) (now (bodies .entry)) i ⌝ }
 {
     let mut rec = [0u8; 120];
-    let mut j = 0;
-    while j < 120 {
-        rec[j] = data_byte(kind, header, bodies, i, j);
-        j += 1;
-    }
+    fill_data(kind, header, bodies, i, &mut rec);
     rec
 }
 
@@ -164,13 +211,7 @@ pub(crate) fn trailer_120(kind: Kind, header: &[u8], sums: [u64; 5]) -> [u8; 120
     ensures { λ r. ⌜ r ≡ trailerBuilt kind (now (header .entry)) sums ⌝ }
 {
     let mut rec = [0u8; 120];
-    let mut row = bytes::row_over(kind, Role::Trailer, 0);
-    let mut j = 0;
-    while j < 120 {
-        rec[j] = trailer_byte(row, kind, header, sums, j);
-        row = bytes::next_row(kind, Role::Trailer, row, j);
-        j += 1;
-    }
+    fill_trailer(kind, header, sums, &mut rec);
     rec
 }
 
@@ -186,13 +227,7 @@ pub(crate) fn header_150(
     ensures { λ r. ⌜ r ≡ headerBuilt kind (headOf (now (date .entry)) (now (code .entry)) (now (item6 .entry)) (now (item7 .entry))) ⌝ }
 {
     let mut rec = [0u8; 150];
-    let mut row = bytes::row_over(kind, Role::Header, 0);
-    let mut j = 0;
-    while j < 150 {
-        rec[j] = header_byte(row, kind, date, code, item6, item7, j);
-        row = bytes::next_row(kind, Role::Header, row, j);
-        j += 1;
-    }
+    fill_header(kind, date, code, item6, item7, &mut rec);
     rec
 }
 
@@ -203,11 +238,7 @@ pub(crate) fn data_150(kind: Kind, header: &[u8], bodies: &[u8], i: usize) -> [u
     ensures { λ r. ⌜ r ≡ dataBuilt kind (now (header .entry)) (now (bodies .entry)) i ⌝ }
 {
     let mut rec = [0u8; 150];
-    let mut j = 0;
-    while j < 150 {
-        rec[j] = data_byte(kind, header, bodies, i, j);
-        j += 1;
-    }
+    fill_data(kind, header, bodies, i, &mut rec);
     rec
 }
 
@@ -217,12 +248,6 @@ pub(crate) fn trailer_150(kind: Kind, header: &[u8], sums: [u64; 5]) -> [u8; 150
     ensures { λ r. ⌜ r ≡ trailerBuilt kind (now (header .entry)) sums ⌝ }
 {
     let mut rec = [0u8; 150];
-    let mut row = bytes::row_over(kind, Role::Trailer, 0);
-    let mut j = 0;
-    while j < 150 {
-        rec[j] = trailer_byte(row, kind, header, sums, j);
-        row = bytes::next_row(kind, Role::Trailer, row, j);
-        j += 1;
-    }
+    fill_trailer(kind, header, sums, &mut rec);
     rec
 }

@@ -27,7 +27,7 @@ fn store(file: &mut [u8], at: usize, rec: &[u8])
 }
 
 // Builds the header and stores it at the front.
-fn put_header(kind: Kind, date: &[u8], code: &[u8], item6: &[u8], item7: &[u8], file: &mut [u8])
+pub fn put_header(kind: Kind, date: &[u8], code: &[u8], item6: &[u8], item7: &[u8], file: &mut [u8])
     requires { ⌜ fixedOf kind .size ≤ length (now file) ⌝ }
     ensures { λ _. ⌜ now (file .exit) ≡ stored 0 (headerBuilt kind (headOf (now (date .entry)) (now (code .entry)) (now (item6 .entry)) (now (item7 .entry)))) (now (file .entry)) ⌝ }
 {
@@ -41,7 +41,7 @@ fn put_header(kind: Kind, date: &[u8], code: &[u8], item6: &[u8], item7: &[u8], 
 }
 
 // Builds data record i + 1 by the header that stands in front, and stores it.
-fn put_record(kind: Kind, bodies: &[u8], i: usize, at: usize, file: &mut [u8])
+pub fn put_record(kind: Kind, bodies: &[u8], i: usize, at: usize, file: &mut [u8])
     requires { ⌜ i < limit ⌝ }
     requires { ⌜ at + fixedOf kind .size ≤ length (now file) ⌝ }
     ensures { λ _. ⌜ now (file .exit) ≡ stored at (dataBuilt kind (take (fixedOf kind .size) (now (file .entry))) (now (bodies .entry)) i) (now (file .entry)) ⌝ }
@@ -98,7 +98,7 @@ fn sums_of(kind: Kind, file: &[u8]) -> [u64; 5]
 }
 
 // Builds the trailer by the header that stands in front, and stores it.
-fn put_trailer(kind: Kind, sums: [u64; 5], at: usize, file: &mut [u8])
+pub fn put_trailer(kind: Kind, sums: [u64; 5], at: usize, file: &mut [u8])
     requires { ⌜ at + fixedOf kind .size ≤ length (now file) ⌝ }
     ensures { λ _. ⌜ now (file .exit) ≡ stored at (trailerBuilt kind (take (fixedOf kind .size) (now (file .entry))) sums) (now (file .entry)) ⌝ }
 {

@@ -1,14 +1,15 @@
 -- Which request a result answers, and which result answers a request: by key, never by serial.
-use Prim.Native.Nat.{ℕ, _+_}
+use Prim.Native.Nat.{ℕ}
 use mathlib.Core.Bool.{Bool}
-use mathlib.Core.List.{List}
+use mathlib.Core.List.{List, []}
 use Rattle.laws.specs.Least.{least}
 use Rattle.laws.specs.Part.{same}
 use Rattle.kinds.specs.declared.of_files.Kind.{Kind}
-use Rattle.kinds.specs.Kinds.{fixedOf}
+use Rattle.kinds.specs.Kinds.{limit}
 use Rattle.keys.specs.Keys.{placesIn}
+use Rattle.keys.specs.Stands.{keyIn}
 use Rattle.records.specs.Records.{dataOf}
-use Rattle.reader.specs.Keys.{keyAt}
+use Rattle.reader.specs.Keys.{keyAt, spacingOf}
 use Rattle.kinds.specs.declared.of_pairs.PairKind.{PairKind}
 use Rattle.kinds.specs.Pairs.{requestKind, resultKind}
 
@@ -27,15 +28,11 @@ requestFor p q r j = placeOf (requestKind p) q (keyAt (resultKind p) r j)
 unfoldable pub resultFor : PairKind → List ℕ → List ℕ → ℕ → ℕ
 resultFor p q r i = placeOf (resultKind p) r (keyAt (requestKind p) q i)
 
--- where the first key of a file stands: both kinds of a pair have it at one place
-abbrev pub firstKey : PairKind → ℕ
-firstKey p = fixedOf (requestKind p) .size + fixedOf (requestKind p) .key .start
-
 -- those of all results, and of all requests, at once
 unfoldable pub requestsFor : PairKind → List ℕ → List ℕ → List ℕ
 requestsFor p q r =
-    placesIn (fixedOf (requestKind p) .size) (firstKey p) (fixedOf (requestKind p) .key .size) q (dataOf (requestKind p) q) r (dataOf (resultKind p) r)
+    placesIn (keyIn [] (spacingOf (requestKind p)) q) (dataOf (requestKind p) q) (keyIn [] (spacingOf (resultKind p)) r) (dataOf (resultKind p) r) limit
 
 unfoldable pub resultsFor : PairKind → List ℕ → List ℕ → List ℕ
 resultsFor p q r =
-    placesIn (fixedOf (requestKind p) .size) (firstKey p) (fixedOf (requestKind p) .key .size) r (dataOf (resultKind p) r) q (dataOf (requestKind p) q)
+    placesIn (keyIn [] (spacingOf (resultKind p)) r) (dataOf (resultKind p) r) (keyIn [] (spacingOf (requestKind p)) q) (dataOf (requestKind p) q) limit

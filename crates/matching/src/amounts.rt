@@ -6,6 +6,7 @@ ghost use Rattle.kinds.specs.Pairs.{requestKind};
 ghost use Rattle.terms.specs.Amounts.{asks};
 ghost use Rattle.matching.specs.Amounts.{askedAt, notTakenBy};
 use kinds::of_pairs;
+use kinds::of_pairs::Family;
 use kinds::of_pairs::PairKind;
 use records::listed;
 use records::quantities;
@@ -15,9 +16,10 @@ use tables::totals::Quantity;
 fn asks(pair: PairKind) -> Quantity
     ensures { λ r. ⌜ r ≡ asks pair ⌝ }
 {
-    match pair {
-        PairKind::Enrolment => Quantity::Records,
-        PairKind::Debit => Quantity::Amounts,
+    let family = pair.family;
+    match family {
+        Family::Enrolment => Quantity::Records,
+        Family::Debit => Quantity::Amounts,
     }
 }
 

@@ -1,23 +1,55 @@
 // Which request a result answers, and which result answers a request: by key, never by serial.
 ghost use mathlib.Core.Path.{_≡_};
+ghost use mathlib.Core.List.{[]};
 ghost use Prim.Native.Nat.{_+_, _≤_};
+ghost use lib.ListN.{length};
 ghost use Rattle.kinds.specs.Kinds.{limit};
+ghost use Rattle.keys.specs.Keys.{placesIn};
+ghost use Rattle.keys.specs.Stands.{keyIn, Inside};
 ghost use Rattle.records.specs.Records.{countOf};
 ghost use Rattle.kinds.specs.Pairs.{requestKind, resultKind};
-ghost use Rattle.matching.specs.Matching.{firstKey, requestsFor, resultsFor};
+ghost use Rattle.matching.specs.Matching.{requestsFor, resultsFor};
 use keys::places;
-use kinds::of_files::Fixed;
+use keys::stands::Spacing;
+use keys::table;
 use kinds::of_files::LIMIT;
 use kinds::of_pairs;
 use kinds::of_pairs::PairKind;
+use reader::repeats;
 use records::listed;
 
-// Where the first key of a file stands: both kinds of a pair have it at one place.
-fn first_key(pair: PairKind) -> usize
-    ensures { λ r. ⌜ r ≡ firstKey pair ⌝ }
+// For each of m keys of t, its place among the n keys of s, as far as the list goes; the keys of each stand at a fixed distance.
+fn places_in(
+    s: &[u8],
+    spacing: Spacing,
+    n: usize,
+    t: &[u8],
+    spaced: Spacing,
+    m: usize,
+    list: &mut [usize],
+)
+    requires { ⌜ n ≤ limit ⌝ }
+    requires { ⌜ Inside [] spacing (now s) n ⌝ }
+    requires { ⌜ Inside [] spaced (now t) m ⌝ }
+    ensures { λ _. ⌜ now (list .exit) ≡ placesIn (keyIn [] spacing (now (s .entry))) n (keyIn [] spaced (now (t .entry))) m (length (now (list .entry))) ⌝ }
 {
-    let fixed = Fixed::of(of_pairs::request_kind(pair));
-    fixed.size + fixed.key.start
+    let none: [u32; 0] = [];
+    let mut numbers = [0u32; LIMIT];
+    let mut firsts = [0u16; table::SLOTS];
+    table::fill(s, &none, spacing, n, &mut numbers, &mut firsts);
+    places::places(
+        s,
+        &none,
+        spacing,
+        n,
+        &numbers,
+        &firsts,
+        t,
+        &none,
+        spaced,
+        m,
+        list,
+    );
 }
 
 // The request of each result.
@@ -27,17 +59,19 @@ pub fn requests_for(pair: PairKind, request: &[u8], result: &[u8]) -> [usize; LI
     requires { ⌜ 2 ≤ countOf (resultKind pair) (now result) ⌝ }
     ensures { λ r. ⌜ r ≡ requestsFor pair (now (request .entry)) (now (result .entry)) ⌝ }
 {
-    let kind = of_pairs::request_kind(pair);
-    let fixed = Fixed::of(kind);
-    places::places(
+    let asked = of_pairs::request_kind(pair);
+    let answered = of_pairs::result_kind(pair);
+    let mut list = [0usize; LIMIT];
+    places_in(
         request,
-        listed::data_count(kind, request),
+        repeats::spacing(asked),
+        listed::data_count(asked, request),
         result,
-        listed::data_count(of_pairs::result_kind(pair), result),
-        fixed.size,
-        first_key(pair),
-        fixed.key.size,
-    )
+        repeats::spacing(answered),
+        listed::data_count(answered, result),
+        &mut list,
+    );
+    list
 }
 
 // The result of each request.
@@ -47,15 +81,17 @@ pub fn results_for(pair: PairKind, request: &[u8], result: &[u8]) -> [usize; LIM
     requires { ⌜ countOf (resultKind pair) (now result) ≤ limit + 2 ⌝ }
     ensures { λ r. ⌜ r ≡ resultsFor pair (now (request .entry)) (now (result .entry)) ⌝ }
 {
-    let kind = of_pairs::request_kind(pair);
-    let fixed = Fixed::of(kind);
-    places::places(
+    let asked = of_pairs::request_kind(pair);
+    let answered = of_pairs::result_kind(pair);
+    let mut list = [0usize; LIMIT];
+    places_in(
         result,
-        listed::data_count(of_pairs::result_kind(pair), result),
+        repeats::spacing(answered),
+        listed::data_count(answered, result),
         request,
-        listed::data_count(kind, request),
-        fixed.size,
-        first_key(pair),
-        fixed.key.size,
-    )
+        repeats::spacing(asked),
+        listed::data_count(asked, request),
+        &mut list,
+    );
+    list
 }

@@ -14,7 +14,7 @@ use Rattle.answers.proofs.Refusals.{refuses-zero, number-of}
 use Rattle.records.specs.Records.{dataOf}
 use Rattle.reader.specs.Reading.{readAs}
 use Rattle.reader.proofs.Cut.{cut-short}
-use Rattle.reader.proofs.Marking.{not-trivial}
+use Rattle.reader.proofs.Marking.{read-nothing}
 use Rattle.kinds.specs.declared.of_pairs.PairKind.{PairKind}
 use Rattle.kinds.specs.Pairs.{requestKind, resultKind}
 use Rattle.reader.proofs.Accepted.{read-zero, meets-zero}
@@ -46,7 +46,7 @@ result-empty p q fits e =
     by-result p q [] fits e (λ z. absurd (omega (arith, number-of (sym empty) ∙ z))) ∙ ap (λ (a : Answer). onSide 2 a) empty
   where
     empty : readAs (resultKind p) [] ≡ refused 2
-    empty = not-trivial (resultKind p) .1
+    empty = read-nothing (resultKind p)
 
 -- a good result cut short
 module _ (p : PairKind) (q r : List ℕ) (fits : Bool) (good : readAs (resultKind p) r ≡ accepted) (m : ℕ) (less : m < length r) where

@@ -9,44 +9,51 @@ use borrow.Author.Tests.{lt-ltb}
 use Rattle.layout.specs.Items.{amountOf, markOf}
 use Rattle.records.specs.Records.{dataOf}
 use Rattle.records.specs.Quantities.{worth, worthAt}
-use Rattle.kinds.specs.declared.of_files.Kind.the-variants.{EB22}
-use Rattle.kinds.specs.declared.of_pairs.PairKind.the-variants.{Debit}
+use Rattle.kinds.specs.declared.of_files.Own.{Own}
+use Rattle.kinds.specs.declared.of_pairs.PairKind.{PairKind}
+use Rattle.kinds.specs.declared.of_pairs.Family.the-variants.{Debit}
+use Rattle.kinds.specs.Pairs.{pairKind, resultKind}
 use Rattle.terms.specs.Same.{requestAt, resultAt}
-use Rattle.terms.specs.Possible.{baseFor, Possible}
+use Rattle.terms.specs.Possible.{baseFor, PossibleIn, Possible}
 use Rattle.matching.specs.Amounts.{askedAt, takenAt, notTakenBy, notTakenAt}
 use Rattle.pair.specs.Pairing.{pairBy}
 use Rattle.pair.specs.Assigned.{Matches, Met}
 use Rattle.pair.proofs.Keys.{request-is, result-is}
 use Rattle.pair.proofs.Matched.{Paired, pair-known}
 
--- of request i + 1, which result j + 1 answers
-pub record PartTaken (q r : List ℕ) (i j : ℕ) : Type 0 where
+-- of request i + 1 of a debit, which result j + 1 answers
+pub record PartTaken (p : PairKind) (q r : List ℕ) (i j : ℕ) : Type 0 where
   -- the result's amount is some, and less than was asked
-  pub some : 0 < amountOf (resultAt Debit r j)
-  pub less : amountOf (resultAt Debit r j) < amountOf (requestAt Debit q i)
+  pub some : 0 < amountOf (resultAt p r j)
+  pub less : amountOf (resultAt p r j) < amountOf (requestAt p q i)
   -- it is what was not taken
-  pub left : notTakenAt Debit q r i ≡ amountOf (resultAt Debit r j)
+  pub left : notTakenAt p q r i ≡ amountOf (resultAt p r j)
   -- and what was asked less it was taken, which reaches the base of the type
-  pub took : takenAt Debit q r i ≡ amountOf (requestAt Debit q i) - amountOf (resultAt Debit r j)
-  pub base : baseFor (requestAt Debit q i) ≤ takenAt Debit q r i
+  pub took : takenAt p q r i ≡ amountOf (requestAt p q i) - amountOf (resultAt p r j)
+  pub base : baseFor (p .request .least) (requestAt p q i) ≤ takenAt p q r i
 
-module _ (q r : List ℕ) (i j : ℕ) (x : Matches Debit q r i j) where
-  -- what was not taken is the amount of the result that has the request's key, and the rest was taken
-  left-is : Paired Debit q r → notTakenAt Debit q r i ≡ amountOf (resultAt Debit r j)
-  unfolding notTakenAt notTakenBy worthAt worth
-  left-is p = rw (result-is Debit q r (p .result .keys) i j x, lt-ltb j (dataOf EB22 r) (x .result))
+-- debits of any kind
+module _ (a b : Own) where
+  abbrev debit : PairKind
+  debit = pairKind Debit a b
 
-  took-is : Paired Debit q r → takenAt Debit q r i ≡ amountOf (requestAt Debit q i) - amountOf (resultAt Debit r j)
-  unfolding takenAt askedAt worthAt worth
-  took-is p = rw (left-is p)
+  module _ (q r : List ℕ) (i j : ℕ) (x : Matches debit q r i j) where
+    -- what was not taken is the amount of the result that has the request's key, and the rest was taken
+    left-is : Paired debit q r → notTakenAt debit q r i ≡ amountOf (resultAt debit r j)
+    unfolding notTakenAt notTakenBy worthAt worth
+    left-is p = rw (result-is debit q r (p .result .keys) i j x, lt-ltb j (dataOf (resultKind debit) r) (x .result))
 
-  possible-part : Paired Debit q r → markOf (resultAt Debit r j) ≡ 0x50 → Possible Debit (requestAt Debit q i) (resultAt Debit r j) → PartTaken q r i j
-  possible-part p m (Possible.nothing n e) = absurd (omega arith)
-  possible-part p m (Possible.some t ne l less base) =
-      record { some = l; less = less; left = left-is p; took = took-is p; base = rw (took-is p) base }
+    took-is : Paired debit q r → takenAt debit q r i ≡ amountOf (requestAt debit q i) - amountOf (resultAt debit r j)
+    unfolding takenAt askedAt worthAt worth
+    took-is p = rw (left-is p)
 
-  met : Paired Debit q r → Met Debit q r i j
-  met p = rw (request-is Debit q r (p .request .keys) i j x) at (p .each j (x .result))
+    possible-part : Paired debit q r → markOf (resultAt debit r j) ≡ 0x50 → Possible debit (requestAt debit q i) (resultAt debit r j) → PartTaken debit q r i j
+    possible-part p m (PossibleIn.nothing n e) = absurd (omega arith)
+    possible-part p m (PossibleIn.some t ne l less base) =
+        record { some = l; less = less; left = left-is p; took = took-is p; base = rw (took-is p) base }
 
-  pub part-taken : (fits : Bool) → pairBy Debit q r fits .number ≡ 0 → markOf (resultAt Debit r j) ≡ 0x50 → PartTaken q r i j
-  part-taken fits e m = let p = pair-known Debit q r fits e in possible-part p m (met p .possible)
+    met : Paired debit q r → Met debit q r i j
+    met p = rw (request-is debit q r (p .request .keys) i j x) at (p .each j (x .result))
+
+    pub part-taken : (fits : Bool) → pairBy debit q r fits .number ≡ 0 → markOf (resultAt debit r j) ≡ 0x50 → PartTaken debit q r i j
+    part-taken fits e m = let p = pair-known debit q r fits e in possible-part p m (met p .possible)

@@ -3,7 +3,7 @@ use Prim.Native.Nat.{ℕ}
 use mathlib.Core.List.{List, [], _∷_, _++_}
 use lib.ListN.{length, take}
 use Rattle.numbers.specs.Numbers.{digitsOf}
-use Rattle.kinds.specs.declared.of_files.Kind.the-variants.{EB21}
+use Rattle.kinds.specs.Kinds.{EB21}
 use Rattle.answers.specs.declared.told.Answer.{Answer}
 use Rattle.records.specs.Records.{dataOf}
 use Rattle.reader.specs.Reading.{readOf}

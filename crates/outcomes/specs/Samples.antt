@@ -4,7 +4,7 @@ use mathlib.Core.Bool.{cond}
 use mathlib.Core.List.{List, [], _∷_, _++_}
 use lib.Dec.{eqb}
 use Rattle.numbers.specs.Numbers.{digitsOf}
-use Rattle.kinds.specs.declared.of_files.Kind.the-variants.{EB21, EB22}
+use Rattle.kinds.specs.Kinds.{EB21, EB22}
 use Rattle.reader.specs.Samples.{all, blanks, code, headerFor, trailerFor}
 
 -- an account and a payer

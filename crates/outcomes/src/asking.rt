@@ -9,6 +9,7 @@ ghost use Rattle.outcomes.specs.Outcomes.{told, failedBy, outcomeAt, ask
 use crate::cases::Outcome;
 use crate::cases::Told;
 use answers::told::Answer;
+use kinds::of_files::Fixed;
 use kinds::of_pairs;
 use kinds::of_pairs::PairKind;
 use kinds::of_pairs::PairNamed;
@@ -23,10 +24,7 @@ use text::parts;
 fn mark_start(pair: PairKind) -> usize
     ensures { λ r. ⌜ r ≡ markStart pair ⌝ }
 {
-    match pair {
-        PairKind::Enrolment => 91,
-        PairKind::Debit => 68,
-    }
+    Fixed::of(of_pairs::result_kind(pair)).mark
 }
 
 // "P" is a part, else the whole was refused.

@@ -3,7 +3,7 @@
 use Prim.Native.Nat.{ℕ, _+_, _<_}
 use mathlib.Core.Bool.{Bool, true}
 use mathlib.Core.List.{List}
-use mathlib.Core.Path.{_≡_, sym, _∙_}
+use mathlib.Core.Path.{_≡_, refl, sym, _∙_}
 use mathlib.Core.Logic.{⊎-elim}
 use native.Mathlib.Nat.{add-zero}
 use borrow.Author.Tests.{lt-ltb, ltb-true}
@@ -12,22 +12,28 @@ use Rattle.laws.proofs.Bools.{either}
 use Rattle.records.specs.Records.{dataOf}
 use Rattle.records.specs.Quantities.{worth, worthAt}
 use Rattle.kinds.specs.declared.of_pairs.PairKind.{PairKind}
-use Rattle.kinds.specs.declared.of_pairs.PairKind.the-variants.{Enrolment, Debit}
+use Rattle.kinds.specs.declared.of_pairs.Family.{Family}
+use Rattle.kinds.specs.declared.of_pairs.Family.the-variants.{Enrolment, Debit}
 use Rattle.kinds.specs.Pairs.{requestKind, resultKind}
+use Rattle.terms.specs.Amounts.{asksIn}
 use Rattle.terms.specs.Same.{resultAt}
 use Rattle.matching.specs.Matching.{resultFor}
 use Rattle.matching.specs.Amounts.{askedAt, takenAt, notTakenBy, notTakenAt}
 use Rattle.pair.specs.Pairing.{pairBy}
-use Rattle.pair.specs.Assigned.{Assignment, saidNotTaken}
+use Rattle.pair.specs.Assigned.{Assignment, saidIn, saidNotTaken}
 use Rattle.pair.proofs.Keys.{result-is, request-back, met-matches}
 use Rattle.pair.proofs.Matched.{Paired, pair-known, met-is}
 use Rattle.pair.proofs.Money.{each-request}
 
 -- what a result that is there says was not taken
+worth-in : (f : Family) (result : List ℕ) → worth (asksIn f) result ≡ saidIn f result
+unfolding worth
+worth-in Enrolment result = refl
+worth-in Debit result = refl
+
 said-by : (p : PairKind) (r : List ℕ) (j : ℕ) → j < dataOf (resultKind p) r → notTakenBy p r j ≡ saidNotTaken p (resultAt p r j)
-unfolding notTakenBy worthAt worth
-said-by Enrolment r j h = rw (lt-ltb j (dataOf (resultKind Enrolment) r) h)
-said-by Debit r j h = rw (lt-ltb j (dataOf (resultKind Debit) r) h)
+unfolding notTakenBy worthAt
+said-by p r j h = rw (lt-ltb j (dataOf (resultKind p) r) h) (worth-in (p .family) (resultAt p r j))
 
 module _ (p : PairKind) (q r : List ℕ) (fits : Bool) (e : pairBy p q r fits .number ≡ 0) (a : Assignment p q r) where
   known : Paired p q r

@@ -16,17 +16,19 @@ use Rattle.laws.proofs.Parts.{part-at}
 use Rattle.text.specs.Characters.{digits, zeros}
 use Rattle.numbers.specs.Numbers.{wordOf}
 use Rattle.numbers.proofs.Values.{zeros-if}
-use Rattle.kinds.specs.declared.of_files.Kind.the-variants.{EB14, EB22}
+use Rattle.kinds.specs.declared.of_files.Own.{Own}
+use Rattle.kinds.specs.Kinds.{fixedOf}
 use Rattle.tables.specs.Codes.{isTableCode}
-use Rattle.tables.specs.Tables.{dataFront, enrolmentData, debitData, eb14Data, eb22Data}
+use Rattle.tables.specs.Tables.{dataFront, enrolmentData, debitData, enrolmentResultData, debitResultData}
 use Rattle.layout.specs.Items.{amountOf, markOf}
 use Rattle.layout.specs.Rules.{failed, partly, meets, holds}
 use Rattle.records.specs.Records.{recordOf, dataOf}
 use Rattle.reader.specs.Meets.{Meets}
 use Rattle.reader.proofs.Accepted.{data-row}
 use Rattle.kinds.specs.declared.of_pairs.PairKind.{PairKind}
-use Rattle.kinds.specs.declared.of_pairs.PairKind.the-variants.{Enrolment, Debit}
-use Rattle.kinds.specs.Pairs.{resultKind}
+use Rattle.kinds.specs.declared.of_pairs.Family.{Family}
+use Rattle.kinds.specs.declared.of_pairs.Family.the-variants.{Enrolment, Debit}
+use Rattle.kinds.specs.Pairs.{resultIn, resultKind}
 use Rattle.terms.specs.Marks.{markIn}
 use Rattle.terms.specs.Same.{resultAt}
 
@@ -50,36 +52,46 @@ abbrev pub Marked : ℕ → Type 0
 Marked mark = (mark ≡ 0x4E) ⊎ (mark ≡ 0x50)
 
 -- that of an enrolment result is "N"
-enrolment-mark : (r : List ℕ) → Meets EB14 r → (j : ℕ) → j < dataOf EB14 r → getD (recordOf EB14 r (j + 1)) 91 0 ≡ 0x4E
-unfolding holds meets dataFront enrolmentData eb14Data
-enrolment-mark r m j h = mark-failed 91 (recordOf EB14 r (j + 1)) (data-row EB14 r m j h 11 (omega arith))
+enrolment-mark : (o : Own) (r : List ℕ) → Meets (resultIn Enrolment o) r → (j : ℕ) → j < dataOf (resultIn Enrolment o) r → getD (recordOf (resultIn Enrolment o) r (j + 1)) 91 0 ≡ 0x4E
+unfolding holds meets dataFront enrolmentData enrolmentResultData
+enrolment-mark o r m j h = mark-failed 91 (recordOf (resultIn Enrolment o) r (j + 1)) (data-row (resultIn Enrolment o) r m j h 11 (omega arith))
 
--- that of a debit result is either
-pub debit-mark : (r : List ℕ) → Meets EB22 r → (j : ℕ) → j < dataOf EB22 r → Marked (markOf (recordOf EB22 r (j + 1)))
-unfolding holds meets dataFront debitData eb22Data
-debit-mark r m j h =
-    ⊎-elim (λ t. inl (mark-failed 68 (recordOf EB22 r (j + 1)) t)) (λ t. inr (mark-partly 68 (recordOf EB22 r (j + 1)) t))
-    (or-cases (failed (part 68 5 (recordOf EB22 r (j + 1)))) (partly (part 68 5 (recordOf EB22 r (j + 1)))) (data-row EB22 r m j h 8 (omega arith)))
+-- of a debit result, of any kind
+module _ (o : Own) (r : List ℕ) (m : Meets (resultIn Debit o) r) (j : ℕ) (h : j < dataOf (resultIn Debit o) r) where
+  abbrev result : List ℕ
+  result = recordOf (resultIn Debit o) r (j + 1)
 
--- the same of both pair kinds
+  -- the mark is either
+  pub debit-mark : Marked (markOf result)
+  unfolding holds meets dataFront debitData debitResultData
+  debit-mark =
+      ⊎-elim (λ t. inl (mark-failed 68 result t)) (λ t. inr (mark-partly 68 result t))
+      (or-cases (failed (part 68 5 result)) (partly (part 68 5 result)) (data-row (resultIn Debit o) r m j h 8 (omega arith)))
+
+  -- the amount is not zero
+  pub debit-amount : 0 < amountOf result
+  unfolding holds meets digits dataFront debitData debitResultData
+  debit-amount = ⊎-elim none (λ l. l) (eq-or-lt-of-le zero-le)
+    where
+      item : List ℕ
+      item = part 42 13 result
+
+      all-digits : digits item ≡ true
+      all-digits = data-row (resultIn Debit o) r m j h 5 (omega arith)
+
+      some-other : not (zeros item) ≡ true
+      some-other = data-row (resultIn Debit o) r m j h 6 (omega arith)
+
+      none : 0 ≡ amountOf result → 0 < amountOf result
+      none e = absurd (clash (zeros-if item all-digits (sym e)) (not-true (zeros item) some-other))
+
+-- the same of both families
+mark-in :
+    (f : Family) (o : Own) (r : List ℕ) → Meets (resultIn f o) r → (j : ℕ) → j < dataOf (resultIn f o) r →
+    Marked (getD (recordOf (resultIn f o) r (j + 1)) (fixedOf (resultIn f o) .mark) 0)
+mark-in Enrolment o r m j h = inl (enrolment-mark o r m j h)
+mark-in Debit o r m j h = debit-mark o r m j h
+
 pub result-mark : (p : PairKind) (r : List ℕ) → Meets (resultKind p) r → (j : ℕ) → j < dataOf (resultKind p) r → Marked (markIn p (resultAt p r j))
 unfolding markIn
-result-mark Enrolment r m j h = inl (enrolment-mark r m j h)
-result-mark Debit r m j h = debit-mark r m j h
-
--- the amount of a debit result is not zero
-pub debit-amount : (r : List ℕ) → Meets EB22 r → (j : ℕ) → j < dataOf EB22 r → 0 < amountOf (recordOf EB22 r (j + 1))
-unfolding holds meets digits dataFront debitData eb22Data
-debit-amount r m j h = ⊎-elim none (λ l. l) (eq-or-lt-of-le zero-le)
-  where
-    item : List ℕ
-    item = part 42 13 (recordOf EB22 r (j + 1))
-
-    all-digits : digits item ≡ true
-    all-digits = data-row EB22 r m j h 5 (omega arith)
-
-    some-other : not (zeros item) ≡ true
-    some-other = data-row EB22 r m j h 6 (omega arith)
-
-    none : 0 ≡ amountOf (recordOf EB22 r (j + 1)) → 0 < amountOf (recordOf EB22 r (j + 1))
-    none e = absurd (clash (zeros-if item all-digits (sym e)) (not-true (zeros item) some-other))
+result-mark p = mark-in (p .family) (p .result)

@@ -14,26 +14,27 @@ use Rattle.laws.specs.Sum.{sum}
 use Rattle.laws.proofs.Bools.{either}
 use Rattle.laws.proofs.Sums.{sum-same, sum-add, sum-along}
 use Rattle.numbers.specs.Numbers.{valueOf}
-use Rattle.kinds.specs.declared.of_files.Kind.the-variants.{EB13, EB14, EB21, EB22}
+use Rattle.kinds.specs.declared.of_files.Own.{Own}
 use Rattle.tables.specs.declared.totals.Quantity.{Quantity}
 use Rattle.tables.specs.declared.totals.Quantity.the-variants.{Records, OfKind, AmountsMarked}
-use Rattle.tables.specs.Tables.{trailerFront, enrolmentTrailer, eb13Trailer, eb14Trailer, eb21Trailer, eb22Trailer}
+use Rattle.tables.specs.Tables.{trailerFront, enrolmentTrailer, enrolmentRequestTrailer, enrolmentResultTrailer, debitRequestTrailer, debitResultTrailer}
 use Rattle.tables.specs.Places.{placeIn}
-use Rattle.tables.specs.Totals.{noTotal, enrolmentTotals, eb21Totals, eb22Totals, totalsOf}
+use Rattle.tables.specs.Totals.{noTotal, enrolmentTotals, debitRequestTotals, debitResultTotals, totalsOf}
 use Rattle.records.specs.Records.{dataOf, trailerOf}
 use Rattle.records.specs.Quantities.{worth, worthAt, quantityOf}
 use Rattle.reader.specs.Meets.{Meets}
 use Rattle.reader.proofs.Accepted.{total-value}
 use Rattle.kinds.specs.declared.of_pairs.PairKind.{PairKind}
-use Rattle.kinds.specs.declared.of_pairs.PairKind.the-variants.{Enrolment, Debit}
-use Rattle.kinds.specs.Pairs.{requestKind, resultKind}
-use Rattle.terms.specs.Amounts.{asks}
+use Rattle.kinds.specs.declared.of_pairs.Family.{Family}
+use Rattle.kinds.specs.declared.of_pairs.Family.the-variants.{Enrolment, Debit}
+use Rattle.kinds.specs.Pairs.{pairKind, requestIn, resultIn, requestKind, resultKind}
+use Rattle.terms.specs.Amounts.{asksIn, asks}
 use Rattle.pair.proofs.Marks.{debit-mark}
 use Rattle.pair.proofs.Possible.{possible-most}
 use Rattle.matching.specs.Matching.{requestFor, resultFor}
 use Rattle.matching.specs.Amounts.{askedAt, takenAt, notTakenBy, notTakenAt}
 use Rattle.pair.specs.Pairing.{pairBy, pairAs}
-use Rattle.pair.specs.Trailers.{trailerSays, failedAs, askedInAll, failedInAll}
+use Rattle.pair.specs.Trailers.{trailerSays, failedAs, askedIn, askedInAll, failedIn, failedInAll}
 use Rattle.pair.proofs.Keys.{result-back, request-back}
 use Rattle.pair.proofs.Matched.{Paired, pair-known, lent-pair, result-met}
 
@@ -88,70 +89,86 @@ pub not-taken-failed : (p : PairKind) (q r : List ℕ) (i : ℕ) → notTakenAt 
 unfolding notTakenAt notTakenBy failedAs
 not-taken-failed p q r i = refl
 
--- debit: what was not taken, by the results' marks
-module _ (q r : List ℕ) (fits : Bool) (e : pairBy Debit q r fits .number ≡ 0) where
-  -- of "N" results: item 7 of the result's trailer
-  pub debit-none : sum (failedAs Debit q r (AmountsMarked 0x4E)) (dataOf EB21 q) ≡ trailerSays EB22 7 r
-  unfolding eb22Totals trailerSays placeIn trailerFront eb22Trailer
-  debit-none = result-totals Debit q r fits e 2 (omega arith)
+-- debit, of any kind: what was not taken, by the results' marks
+module _ (a b : Own) where
+  abbrev debit : PairKind
+  debit = pairKind Debit a b
 
-  -- of "P" results: item 9
-  pub debit-part : sum (failedAs Debit q r (AmountsMarked 0x50)) (dataOf EB21 q) ≡ trailerSays EB22 9 r
-  unfolding eb22Totals trailerSays placeIn trailerFront eb22Trailer
-  debit-part = result-totals Debit q r fits e 4 (omega arith)
+  module _ (q r : List ℕ) (fits : Bool) (e : pairBy debit q r fits .number ≡ 0) where
+    -- of "N" results: item 7 of the result's trailer
+    pub debit-none : sum (failedAs debit q r (AmountsMarked 0x4E)) (dataOf (requestKind debit) q) ≡ trailerSays (resultKind debit) 7 r
+    unfolding debitResultTotals trailerSays placeIn trailerFront debitResultTrailer
+    debit-none = result-totals debit q r fits e 2 (omega arith)
 
-  -- a result is one or the other
-  either-mark : (i : ℕ) → notTakenAt Debit q r i ≡ failedAs Debit q r (AmountsMarked 0x4E) i + failedAs Debit q r (AmountsMarked 0x50) i
-  unfolding notTakenAt notTakenBy failedAs worthAt worth
-  either-mark i = ⊎-elim some (λ f. rw f) (either (ltb (resultFor Debit q r i) (dataOf EB22 r)))
-    where
-      some : ltb (resultFor Debit q r i) (dataOf EB22 r) ≡ true → notTakenAt Debit q r i ≡ failedAs Debit q r (AmountsMarked 0x4E) i + failedAs Debit q r (AmountsMarked 0x50) i
-      some t =
-          rw t (⊎-elim (λ n. rw n (omega arith)) (λ n. rw n (omega arith))
-          (debit-mark r (pair-known Debit q r fits e .result) (resultFor Debit q r i) (ltb-true (resultFor Debit q r i) (dataOf EB22 r) t)))
+    -- of "P" results: item 9
+    pub debit-part : sum (failedAs debit q r (AmountsMarked 0x50)) (dataOf (requestKind debit) q) ≡ trailerSays (resultKind debit) 9 r
+    unfolding debitResultTotals trailerSays placeIn trailerFront debitResultTrailer
+    debit-part = result-totals debit q r fits e 4 (omega arith)
 
-  -- of all results: both together
-  pub debit-not-taken : sum (notTakenAt Debit q r) (dataOf EB21 q) ≡ trailerSays EB22 7 r + trailerSays EB22 9 r
-  debit-not-taken =
-      sum-add (failedAs Debit q r (AmountsMarked 0x4E)) (failedAs Debit q r (AmountsMarked 0x50)) (notTakenAt Debit q r) (dataOf EB21 q) (λ k l. either-mark k) ∙
-      rw (debit-none, debit-part)
+    -- a result is one or the other
+    either-mark : (i : ℕ) → notTakenAt debit q r i ≡ failedAs debit q r (AmountsMarked 0x4E) i + failedAs debit q r (AmountsMarked 0x50) i
+    unfolding notTakenAt notTakenBy failedAs worthAt worth
+    either-mark i = ⊎-elim some (λ f. rw f) (either (ltb (resultFor debit q r i) (dataOf (resultKind debit) r)))
+      where
+        some : ltb (resultFor debit q r i) (dataOf (resultKind debit) r) ≡ true → notTakenAt debit q r i ≡ failedAs debit q r (AmountsMarked 0x4E) i + failedAs debit q r (AmountsMarked 0x50) i
+        some t =
+            rw t (⊎-elim (λ n. rw n (omega arith)) (λ n. rw n (omega arith))
+            (debit-mark b r (pair-known debit q r fits e .result) (resultFor debit q r i) (ltb-true (resultFor debit q r i) (dataOf (resultKind debit) r) t)))
 
--- enrolment: what was not taken, in all and by application kind
-module _ (q r : List ℕ) (fits : Bool) (e : pairBy Enrolment q r fits .number ≡ 0) where
-  -- in all: the count, item 5 of the result's trailer
-  pub enrolment-not-taken : sum (notTakenAt Enrolment q r) (dataOf EB13 q) ≡ trailerSays EB14 5 r
-  unfolding enrolmentTotals trailerSays placeIn trailerFront enrolmentTrailer eb14Trailer
-  enrolment-not-taken =
-      sum-same (notTakenAt Enrolment q r) (failedAs Enrolment q r Records) (dataOf EB13 q) (λ k l. not-taken-failed Enrolment q r k) ∙
-      result-totals Enrolment q r fits e 0 (omega arith)
+    -- of all results: both together
+    pub debit-not-taken : sum (notTakenAt debit q r) (dataOf (requestKind debit) q) ≡ trailerSays (resultKind debit) 7 r + trailerSays (resultKind debit) 9 r
+    debit-not-taken =
+        sum-add (failedAs debit q r (AmountsMarked 0x4E)) (failedAs debit q r (AmountsMarked 0x50)) (notTakenAt debit q r) (dataOf (requestKind debit) q) (λ k l. either-mark k) ∙
+        rw (debit-none, debit-part)
 
-  -- of kind "1": item 6
-  pub enrolment-kind-1 : sum (failedAs Enrolment q r (OfKind 0x31)) (dataOf EB13 q) ≡ trailerSays EB14 6 r
-  unfolding enrolmentTotals trailerSays placeIn trailerFront enrolmentTrailer eb14Trailer
-  enrolment-kind-1 = result-totals Enrolment q r fits e 1 (omega arith)
+-- enrolment, of any kind: what was not taken, in all and by application kind
+module _ (a b : Own) where
+  abbrev enrolment : PairKind
+  enrolment = pairKind Enrolment a b
 
-  -- of kind "3": item 8
-  pub enrolment-kind-3 : sum (failedAs Enrolment q r (OfKind 0x33)) (dataOf EB13 q) ≡ trailerSays EB14 8 r
-  unfolding enrolmentTotals trailerSays placeIn trailerFront enrolmentTrailer eb14Trailer
-  enrolment-kind-3 = result-totals Enrolment q r fits e 2 (omega arith)
+  module _ (q r : List ℕ) (fits : Bool) (e : pairBy enrolment q r fits .number ≡ 0) where
+    -- in all: the count, item 5 of the result's trailer
+    pub enrolment-not-taken : sum (notTakenAt enrolment q r) (dataOf (requestKind enrolment) q) ≡ trailerSays (resultKind enrolment) 5 r
+    unfolding enrolmentTotals trailerSays placeIn trailerFront enrolmentTrailer enrolmentResultTrailer
+    enrolment-not-taken =
+        sum-same (notTakenAt enrolment q r) (failedAs enrolment q r Records) (dataOf (requestKind enrolment) q) (λ k l. not-taken-failed enrolment q r k) ∙
+        result-totals enrolment q r fits e 0 (omega arith)
 
-  -- of kind "7": item 9
-  pub enrolment-kind-7 : sum (failedAs Enrolment q r (OfKind 0x37)) (dataOf EB13 q) ≡ trailerSays EB14 9 r
-  unfolding enrolmentTotals trailerSays placeIn trailerFront enrolmentTrailer eb14Trailer
-  enrolment-kind-7 = result-totals Enrolment q r fits e 3 (omega arith)
+    -- of kind "1": item 6
+    pub enrolment-kind-1 : sum (failedAs enrolment q r (OfKind 0x31)) (dataOf (requestKind enrolment) q) ≡ trailerSays (resultKind enrolment) 6 r
+    unfolding enrolmentTotals trailerSays placeIn trailerFront enrolmentTrailer enrolmentResultTrailer
+    enrolment-kind-1 = result-totals enrolment q r fits e 1 (omega arith)
+
+    -- of kind "3": item 8
+    pub enrolment-kind-3 : sum (failedAs enrolment q r (OfKind 0x33)) (dataOf (requestKind enrolment) q) ≡ trailerSays (resultKind enrolment) 8 r
+    unfolding enrolmentTotals trailerSays placeIn trailerFront enrolmentTrailer enrolmentResultTrailer
+    enrolment-kind-3 = result-totals enrolment q r fits e 2 (omega arith)
+
+    -- of kind "7": item 9
+    pub enrolment-kind-7 : sum (failedAs enrolment q r (OfKind 0x37)) (dataOf (requestKind enrolment) q) ≡ trailerSays (resultKind enrolment) 9 r
+    unfolding enrolmentTotals trailerSays placeIn trailerFront enrolmentTrailer enrolmentResultTrailer
+    enrolment-kind-7 = result-totals enrolment q r fits e 3 (omega arith)
 
 -- *Not taken*: all that was not taken is what the result's trailer says
+not-taken-in :
+    (f : Family) (a b : Own) (q r : List ℕ) (fits : Bool) → pairBy (pairKind f a b) q r fits .number ≡ 0 →
+    sum (notTakenAt (pairKind f a b) q r) (dataOf (requestIn f a) q) ≡ failedIn f (resultIn f b) r
+not-taken-in Enrolment a b q r fits e = enrolment-not-taken a b q r fits e
+not-taken-in Debit a b q r fits e = debit-not-taken a b q r fits e
+
 pub not-taken-in-all :
     (p : PairKind) (q r : List ℕ) (fits : Bool) → pairBy p q r fits .number ≡ 0 →
     sum (notTakenAt p q r) (dataOf (requestKind p) q) ≡ failedInAll p r
-not-taken-in-all Enrolment q r fits e = enrolment-not-taken q r fits e
-not-taken-in-all Debit q r fits e = debit-not-taken q r fits e
+not-taken-in-all p = not-taken-in (p .family) (p .request) (p .result)
 
 -- what all requests ask is what the request's trailer says
+asked-in : (f : Family) (o : Own) (q : List ℕ) → Meets (requestIn f o) q → quantityOf (requestIn f o) q (asksIn f) ≡ askedIn f (requestIn f o) q
+unfolding enrolmentTotals debitRequestTotals trailerSays placeIn trailerFront enrolmentTrailer enrolmentRequestTrailer debitRequestTrailer
+asked-in Enrolment o q m = sym (total-value (requestIn Enrolment o) q m 0 (omega arith))
+asked-in Debit o q m = sym (total-value (requestIn Debit o) q m 2 (omega arith))
+
 asked-value : (p : PairKind) (q : List ℕ) → Meets (requestKind p) q → quantityOf (requestKind p) q (asks p) ≡ askedInAll p q
-unfolding enrolmentTotals eb21Totals trailerSays placeIn trailerFront enrolmentTrailer eb13Trailer eb21Trailer
-asked-value Enrolment q m = sym (total-value EB13 q m 0 (omega arith))
-asked-value Debit q m = sym (total-value EB21 q m 2 (omega arith))
+asked-value p = asked-in (p .family) (p .request)
 
 -- *All asked*: all that was taken and all that was not are what the request's trailer says was asked
 pub all-asked :

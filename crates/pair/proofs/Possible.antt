@@ -8,7 +8,9 @@ use mathlib.Core.Logic.{⊎-elim}
 use native.Mathlib.Omega.{arith}
 use borrow.Author.Tests.{lt-ltb, le-leb, ltb-true, ltb-false, leb-true, leb-false, eq-eqb, ne-eqb, eqb-true, eqb-false}
 use lib.Dec.{ltb, leb, eqb}
+use lib.ListN.{getD}
 use Rattle.laws.proofs.Bools.{and-left, and-right, and-both, either, clash}
+use Rattle.kinds.specs.declared.of_files.Own.{Own}
 use Rattle.kinds.specs.Kinds.{fixedOf}
 use Rattle.answers.specs.declared.told.Answer.{Answer}
 use Rattle.answers.specs.Answers.{accepted}
@@ -17,12 +19,13 @@ use Rattle.records.specs.Records.{dataOf}
 use Rattle.records.specs.Quantities.{worth}
 use Rattle.reader.specs.Meets.{Meets}
 use Rattle.kinds.specs.declared.of_pairs.PairKind.{PairKind}
-use Rattle.kinds.specs.declared.of_pairs.PairKind.the-variants.{Enrolment, Debit}
-use Rattle.kinds.specs.Pairs.{requestKind, resultKind}
-use Rattle.terms.specs.Amounts.{asks, baseOf, possible, partOfOne, debitTells, amountsTell}
+use Rattle.kinds.specs.declared.of_pairs.Family.{Family}
+use Rattle.kinds.specs.declared.of_pairs.Family.the-variants.{Enrolment, Debit}
+use Rattle.kinds.specs.Pairs.{pairKind, resultIn, resultKind}
+use Rattle.terms.specs.Amounts.{asksIn, asks, baseOf, possible, partOfOne, debitTells, amountsIn, amountsTell}
 use Rattle.terms.specs.Marks.{markIn}
 use Rattle.terms.specs.Same.{resultAt}
-use Rattle.terms.specs.Possible.{baseFor, Possible, OnTypeOne, Impossible, AmountsRefused}
+use Rattle.terms.specs.Possible.{baseFor, PossibleIn, Possible, OnTypeOne, Impossible, AmountsRefused}
 use Rattle.pair.proofs.Marks.{Marked, debit-mark, debit-amount}
 
 -- what is told of the amounts
@@ -39,7 +42,11 @@ possible-part : (least type mark a u : ℕ) → mark ≡ 0x50 → possible least
 unfolding possible
 possible-part least type mark a u e = rw (ne-eqb mark 0x4E (λ z. absurd (omega arith)))
 
-module _ (rec : ℕ) (request result : List ℕ) where
+module _ (a b : Own) (rec : ℕ) (request result : List ℕ) where
+  -- a debit of any kind
+  abbrev debit : PairKind
+  debit = pairKind Debit a b
+
   abbrev asked : ℕ
   asked = amountOf request
 
@@ -51,7 +58,7 @@ module _ (rec : ℕ) (request result : List ℕ) where
   on-one = partOfOne (markOf result) (typeOf request)
 
   abbrev fits : Bool
-  fits = possible (fixedOf (requestKind Debit) .least) (typeOf request) (markOf result) asked missed
+  fits = possible (a .least) (typeOf request) (markOf result) asked missed
 
   is-one : on-one ≡ true → OnTypeOne Debit request result
   unfolding partOfOne
@@ -67,35 +74,35 @@ module _ (rec : ℕ) (request result : List ℕ) where
   not-one f (OnTypeOne.one m t) = not-both f m t
 
   module _ (marked : Marked (markOf result)) where
-    is-possible : 0 < missed → on-one ≡ false → fits ≡ true → Possible Debit request result
+    is-possible : 0 < missed → on-one ≡ false → fits ≡ true → Possible debit request result
     is-possible l f t = ⊎-elim whole part marked
       where
-        whole : markOf result ≡ 0x4E → Possible Debit request result
-        whole m = Possible.nothing m (eqb-true missed asked (sym (possible-whole _ _ (markOf result) asked missed m) ∙ t))
+        whole : markOf result ≡ 0x4E → Possible debit request result
+        whole m = PossibleIn.nothing m (eqb-true missed asked (sym (possible-whole _ _ (markOf result) asked missed m) ∙ t))
 
-        part : markOf result ≡ 0x50 → Possible Debit request result
+        part : markOf result ≡ 0x50 → Possible debit request result
         part m =
             let e = sym (possible-part _ (typeOf request) (markOf result) asked missed m) ∙ t in
-            Possible.some m (not-both f m) l
-            (ltb-true missed asked (and-left (ltb missed asked) (leb (baseFor request) (asked - missed)) e))
-            (leb-true (baseFor request) (asked - missed) (and-right (ltb missed asked) (leb (baseFor request) (asked - missed)) e))
+            PossibleIn.some m (not-both f m) l
+            (ltb-true missed asked (and-left (ltb missed asked) (leb (baseFor (a .least) request) (asked - missed)) e))
+            (leb-true (baseFor (a .least) request) (asked - missed) (and-right (ltb missed asked) (leb (baseFor (a .least) request) (asked - missed)) e))
 
-    is-impossible : fits ≡ false → Impossible Debit request result
+    is-impossible : fits ≡ false → Impossible (a .least) Debit request result
     is-impossible f = ⊎-elim whole part marked
       where
-        whole : markOf result ≡ 0x4E → Impossible Debit request result
+        whole : markOf result ≡ 0x4E → Impossible (a .least) Debit request result
         whole m = Impossible.other m (eqb-false missed asked (sym (possible-whole _ _ (markOf result) asked missed m) ∙ f))
 
-        less : markOf result ≡ 0x50 → ltb missed asked ≡ true → Impossible Debit request result
+        less : markOf result ≡ 0x50 → ltb missed asked ≡ true → Impossible (a .least) Debit request result
         less m t =
             Impossible.under m (ltb-true missed asked t)
-            (leb-false (baseFor request) (asked - missed) (rw t at (sym (possible-part _ (typeOf request) (markOf result) asked missed m) ∙ f)))
+            (leb-false (baseFor (a .least) request) (asked - missed) (rw t at (sym (possible-part _ (typeOf request) (markOf result) asked missed m) ∙ f)))
 
-        part : markOf result ≡ 0x50 → Impossible Debit request result
+        part : markOf result ≡ 0x50 → Impossible (a .least) Debit request result
         part m = ⊎-elim (less m) (λ n. Impossible.none m (ltb-false missed asked n)) (either (ltb missed asked))
 
     abbrev Debit-told : Type 0
-    Debit-told = AmountsTold Debit rec request result (debitTells (fixedOf (requestKind Debit) .least) rec request result)
+    Debit-told = AmountsTold debit rec request result (debitTells (a .least) rec request result)
 
     debit-told : 0 < missed → Debit-told
     unfolding debitTells
@@ -111,35 +118,53 @@ module _ (rec : ℕ) (request result : List ℕ) where
         wrong f n = rw (f, n) (AmountsTold.bad (AmountsRefused.amount (not-one f) (is-impossible n)))
 
 -- what is told of the amounts of a request and a result that was read
+told-in :
+    (f : Family) (a b : Own) (rec : ℕ) (request r : List ℕ) → Meets (resultIn f b) r → (j : ℕ) → j < dataOf (resultIn f b) r →
+    AmountsTold (pairKind f a b) rec request (resultAt (pairKind f a b) r j) (amountsIn f (a .least) rec request (resultAt (pairKind f a b) r j))
+told-in Enrolment a b rec request r m j h = AmountsTold.good PossibleIn.enrolled
+told-in Debit a b rec request r m j h =
+    debit-told a b rec request (resultAt (pairKind Debit a b) r j) (debit-mark b r m j h) (debit-amount b r m j h)
+
 pub amounts-told :
     (p : PairKind) (rec : ℕ) (request r : List ℕ) → Meets (resultKind p) r → (j : ℕ) → j < dataOf (resultKind p) r →
     AmountsTold p rec request (resultAt p r j) (amountsTell p rec request (resultAt p r j))
-amounts-told Enrolment rec request r m j h = AmountsTold.good Possible.enrolled
-amounts-told Debit rec request r m j h = debit-told rec request (resultAt Debit r j) (debit-mark r m j h) (debit-amount r m j h)
+amounts-told p = told-in (p .family) (p .request) (p .result)
 
 -- possible amounts are accepted
-pub possible-told : (p : PairKind) (rec : ℕ) {request result : List ℕ} → Possible p request result → amountsTell p rec request result ≡ accepted
+possible-in : (f : Family) (least rec : ℕ) {request result : List ℕ} → PossibleIn least f request result → amountsIn f least rec request result ≡ accepted
 unfolding debitTells partOfOne possible
-possible-told Enrolment rec Possible.enrolled = refl
-possible-told Debit rec {request} {result} (Possible.nothing n e) = rw (n, eq-eqb (amountOf result) (amountOf request) e)
-possible-told Debit rec {request} {result} (Possible.some t ne l less base) =
+possible-in Enrolment least rec PossibleIn.enrolled = refl
+possible-in Debit least rec {request} {result} (PossibleIn.nothing n e) = rw (n, eq-eqb (amountOf result) (amountOf request) e)
+possible-in Debit least rec {request} {result} (PossibleIn.some t ne l less base) =
     rw (
       t,
       ne-eqb (typeOf request) 0x31 ne,
       lt-ltb (amountOf result) (amountOf request) less,
-      le-leb (baseFor request) (amountOf request - amountOf result) base,
+      le-leb (baseFor least request) (amountOf request - amountOf result) base,
     )
 
+pub possible-told : (p : PairKind) (rec : ℕ) {request result : List ℕ} → Possible p request result → amountsTell p rec request result ≡ accepted
+possible-told p rec x = possible-in (p .family) (p .request .least) rec x
+
 -- a possible result says no more than was asked, and all of it where its mark is "N"
-pub possible-most : (p : PairKind) {request result : List ℕ} → Possible p request result → worth (asks p) result ≤ worth (asks p) request
+most-in : (f : Family) (least : ℕ) {request result : List ℕ} → PossibleIn least f request result → worth (asksIn f) result ≤ worth (asksIn f) request
 unfolding worth
-possible-most Enrolment Possible.enrolled = omega arith
-possible-most Debit (Possible.nothing n e) = omega arith
-possible-most Debit (Possible.some t ne l less base) = omega arith
+most-in Enrolment least PossibleIn.enrolled = omega arith
+most-in Debit least (PossibleIn.nothing n e) = omega arith
+most-in Debit least (PossibleIn.some t ne l less base) = omega arith
+
+pub possible-most : (p : PairKind) {request result : List ℕ} → Possible p request result → worth (asks p) result ≤ worth (asks p) request
+possible-most p x = most-in (p .family) (p .request .least) x
+
+all-in :
+    (f : Family) (o : Own) (least : ℕ) {request result : List ℕ} → PossibleIn least f request result →
+    getD result (fixedOf (resultIn f o) .mark) 0 ≡ 0x4E → worth (asksIn f) result ≡ worth (asksIn f) request
+unfolding worth
+all-in Enrolment o least PossibleIn.enrolled z = refl
+all-in Debit o least (PossibleIn.nothing n e) z = e
+all-in Debit o least (PossibleIn.some t ne l less base) z = absurd (omega arith)
 
 pub possible-all :
     (p : PairKind) {request result : List ℕ} → Possible p request result → markIn p result ≡ 0x4E → worth (asks p) result ≡ worth (asks p) request
-unfolding worth markIn
-possible-all Enrolment Possible.enrolled z = refl
-possible-all Debit (Possible.nothing n e) z = e
-possible-all Debit (Possible.some t ne l less base) z = absurd (omega arith)
+unfolding markIn
+possible-all p x z = all-in (p .family) (p .result) (p .request .least) x z

@@ -6,7 +6,8 @@ use Rattle.records.specs.Records.{dataOf}
 use Rattle.reader.specs.Keys.{keyAt}
 use Rattle.layout.specs.Items.{amountOf}
 use Rattle.kinds.specs.declared.of_pairs.PairKind.{PairKind}
-use Rattle.kinds.specs.declared.of_pairs.PairKind.the-variants.{Enrolment, Debit}
+use Rattle.kinds.specs.declared.of_pairs.Family.{Family}
+use Rattle.kinds.specs.declared.of_pairs.Family.the-variants.{Enrolment, Debit}
 use Rattle.kinds.specs.Pairs.{requestKind, resultKind}
 use Rattle.terms.specs.Same.{requestAt, resultAt, Agree}
 use Rattle.terms.specs.Possible.{Possible}
@@ -30,6 +31,9 @@ pub record Assignment (p : PairKind) (q r : List ℕ) : Type 0 where
   pub met : (j : ℕ) → j < dataOf (resultKind p) r → Met p q r (to j) j
 
 -- what a result record says was not taken: 1, or its amount
+abbrev pub saidIn : Family → List ℕ → ℕ
+saidIn Enrolment result = 1
+saidIn Debit result = amountOf result
+
 abbrev pub saidNotTaken : PairKind → List ℕ → ℕ
-saidNotTaken Enrolment result = 1
-saidNotTaken Debit result = amountOf result
+saidNotTaken p result = saidIn (p .family) result

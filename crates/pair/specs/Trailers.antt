@@ -7,7 +7,6 @@ use lib.Dec.{eqb, ltb}
 use Rattle.laws.specs.Sum.{sum}
 use Rattle.numbers.specs.Numbers.{valueOf}
 use Rattle.kinds.specs.declared.of_files.Kind.{Kind}
-use Rattle.kinds.specs.declared.of_files.Kind.the-variants.{EB13, EB14, EB21, EB22}
 use Rattle.kinds.specs.declared.of_files.Role.the-variants.{Trailer}
 use Rattle.tables.specs.declared.totals.Quantity.{Quantity}
 use Rattle.tables.specs.Tables.{rowsOf}
@@ -16,8 +15,9 @@ use Rattle.layout.specs.Items.{bytesAt, applicationOf}
 use Rattle.records.specs.Records.{dataOf, trailerOf}
 use Rattle.records.specs.Quantities.{worthAt}
 use Rattle.kinds.specs.declared.of_pairs.PairKind.{PairKind}
-use Rattle.kinds.specs.declared.of_pairs.PairKind.the-variants.{Enrolment, Debit}
-use Rattle.kinds.specs.Pairs.{resultKind}
+use Rattle.kinds.specs.declared.of_pairs.Family.{Family}
+use Rattle.kinds.specs.declared.of_pairs.Family.the-variants.{Enrolment, Debit}
+use Rattle.kinds.specs.Pairs.{requestKind, resultKind}
 use Rattle.matching.specs.Matching.{resultFor}
 use Rattle.matching.specs.Amounts.{takenAt, notTakenAt}
 use Rattle.terms.specs.Same.{requestAt}
@@ -32,22 +32,30 @@ failedAs p q r quantity i =
     cond (ltb (resultFor p q r i) (dataOf (resultKind p) r)) (worthAt (resultKind p) r quantity (resultFor p q r i)) 0
 
 -- what the request's trailer says is asked in all: the count, item 5; in debit the sum, item 7
+abbrev pub askedIn : Family → Kind → List ℕ → ℕ
+askedIn Enrolment k q = trailerSays k 5 q
+askedIn Debit k q = trailerSays k 7 q
+
 abbrev pub askedInAll : PairKind → List ℕ → ℕ
-askedInAll Enrolment q = trailerSays EB13 5 q
-askedInAll Debit q = trailerSays EB21 7 q
+askedInAll p q = askedIn (p .family) (requestKind p) q
 
 -- what the result's trailer says was not taken in all: the count, item 5; in debit the sums, items 7 and 9
+abbrev pub failedIn : Family → Kind → List ℕ → ℕ
+failedIn Enrolment k r = trailerSays k 5 r
+failedIn Debit k r = trailerSays k 7 r + trailerSays k 9 r
+
 abbrev pub failedInAll : PairKind → List ℕ → ℕ
-failedInAll Enrolment r = trailerSays EB14 5 r
-failedInAll Debit r = trailerSays EB22 7 r + trailerSays EB22 9 r
+failedInAll p r = failedIn (p .family) (resultKind p) r
 
 -- a number of each enrolment request, counted where its application kind, item 5, is b
-unfoldable pub ofKind : ℕ → List ℕ → (ℕ → ℕ) → ℕ → ℕ
-ofKind b q f i = cond (eqb (applicationOf (requestAt Enrolment q i)) b) (f i) 0
+unfoldable pub ofKind : PairKind → ℕ → List ℕ → (ℕ → ℕ) → ℕ → ℕ
+ofKind p b q f i = cond (eqb (applicationOf (requestAt p q i)) b) (f i) 0
 
--- the requests of application kind b against an item of both trailers
-pub record KindTotals (q r : List ℕ) (b item : ℕ) : Type 0 where
+-- the enrolment requests of application kind b against an item of both trailers
+pub record KindTotals (p : PairKind) (q r : List ℕ) (b item : ℕ) : Type 0 where
   -- those not taken are what the result's trailer says
-  pub failed : sum (ofKind b q (notTakenAt Enrolment q r)) (dataOf EB13 q) ≡ trailerSays EB14 item r
+  pub failed : sum (ofKind p b q (notTakenAt p q r)) (dataOf (requestKind p) q) ≡ trailerSays (resultKind p) item r
   -- those taken and those not taken are what the request's says
-  pub asked : sum (ofKind b q (takenAt Enrolment q r)) (dataOf EB13 q) + sum (ofKind b q (notTakenAt Enrolment q r)) (dataOf EB13 q) ≡ trailerSays EB13 item q
+  pub asked :
+      sum (ofKind p b q (takenAt p q r)) (dataOf (requestKind p) q) + sum (ofKind p b q (notTakenAt p q r)) (dataOf (requestKind p) q) ≡
+      trailerSays (requestKind p) item q

@@ -15,7 +15,7 @@ use Rattle.laws.specs.Tabulate.{tabulate}
 use Rattle.laws.proofs.Bools.{either}
 use Rattle.laws.proofs.Leasts.{least-is}
 use Rattle.numbers.specs.Numbers.{letterOf}
-use Rattle.kinds.specs.declared.of_files.Kind.the-variants.{EB21}
+use Rattle.kinds.specs.Kinds.{EB21}
 use Rattle.kinds.specs.Kinds.{limit}
 use Rattle.answers.specs.declared.told.Answer.{Answer}
 use Rattle.answers.specs.Answers.{refuses}

@@ -8,12 +8,12 @@ use native.Mathlib.Omega.{arith}
 use borrow.Author.Tests.{le-leb, lt-leb}
 use lib.ListN.{length, drop}
 use Rattle.laws.proofs.Sums.{sum-add}
-use Rattle.kinds.specs.declared.of_files.Kind.the-variants.{EB21}
+use Rattle.kinds.specs.Kinds.{EB21}
 use Rattle.answers.specs.declared.told.Answer.{Answer}
 use Rattle.answers.specs.Answers.{_then_}
 use Rattle.answers.proofs.Refusals.{refuses-is, refuses-not, then-first, then-second, then-zero}
 use Rattle.records.specs.Records.{dataOf}
-use Rattle.kinds.specs.declared.of_pairs.PairKind.the-variants.{Debit}
+use Rattle.kinds.specs.Pairs.{debitPair}
 use Rattle.matching.specs.Amounts.{askedAt, takenAt, notTakenAt}
 use Rattle.outcomes.specs.Outcomes.{asksFor, outcomeAs}
 use Rattle.pair.specs.Pairing.{pairBy}
@@ -34,7 +34,7 @@ module _ (q r : List ℕ) where
     unfolding postTells
     by-result-size ne = then-second (sizeTells 1 q) _ good ∙ then-first (sizeTells 2 r) _ ne
 
-    pub by-pair : sizeTells 2 r .number ≡ 0 → postTells q r ≡ pairBy Debit q r true
+    pub by-pair : sizeTells 2 r .number ≡ 0 → postTells q r ≡ pairBy debitPair q r true
     unfolding postTells
     by-pair fine = then-second (sizeTells 1 q) _ good ∙ then-second (sizeTells 2 r) _ fine
 
@@ -65,25 +65,25 @@ module _ (q r : List ℕ) where
   after-short text h = rw (lt-leb (length (postText q r)) (length text) h)
 
   -- where nothing is refused the pair is accepted
-  pub posted-pair : postTells q r .number ≡ 0 → pairBy Debit q r true .number ≡ 0
+  pub posted-pair : postTells q r .number ≡ 0 → pairBy debitPair q r true .number ≡ 0
   unfolding postTells
   posted-pair e =
-      let a = then-zero (sizeTells 1 q) (sizeTells 2 r then pairBy Debit q r true) e in
-      then-zero (sizeTells 2 r) (pairBy Debit q r true) (a .1) .1
+      let a = then-zero (sizeTells 1 q) (sizeTells 2 r then pairBy debitPair q r true) e in
+      then-zero (sizeTells 2 r) (pairBy debitPair q r true) (a .1) .1
 
-  pub posted-known : (a : Answer) → a ≡ postTells q r → a .number ≡ 0 → Paired Debit q r
-  posted-known a e z = pair-known Debit q r true (posted-pair (rw e at z))
+  pub posted-known : (a : Answer) → a ≡ postTells q r → a .number ≡ 0 → Paired debitPair q r
+  posted-known a e z = pair-known debitPair q r true (posted-pair (rw e at z))
 
   -- *Posted sums*: the first line's sums are over all requests, and what was asked is what was taken and what was not
-  pub posted-sums : postTells q r .number ≡ 0 → sumsOf Debit q r .asked ≡ sumsOf Debit q r .taken + sumsOf Debit q r .«not_taken»
+  pub posted-sums : postTells q r .number ≡ 0 → sumsOf debitPair q r .asked ≡ sumsOf debitPair q r .taken + sumsOf debitPair q r .«not_taken»
   unfolding sumsOf
   posted-sums e =
-      sum-add (takenAt Debit q r) (notTakenAt Debit q r) (askedAt Debit q) (dataOf EB21 q)
-      (λ i l. sym (each-request Debit q r true (posted-pair e) i l))
+      sum-add (takenAt debitPair q r) (notTakenAt debitPair q r) (askedAt debitPair q) (dataOf EB21 q)
+      (λ i l. sym (each-request debitPair q r true (posted-pair e) i l))
 
   -- *Posted lines*: each line says what `outcome` says of its request
-  pub posted-line : postTells q r .number ≡ 0 → (i : ℕ) → i < dataOf EB21 q → lineAt q r i ≡ requestLine (i + 1) (outcomeAs Debit q r (i + 1) .outcome)
+  pub posted-line : postTells q r .number ≡ 0 → (i : ℕ) → i < dataOf EB21 q → lineAt q r i ≡ requestLine (i + 1) (outcomeAs debitPair q r (i + 1) .outcome)
   unfolding lineAt outcomeAs asksFor
   posted-line e i h =
       let less : (i + 1) - 1 ≡ i = omega arith in
-      rw (refuses-not (pairBy Debit q r true) (posted-pair e), le-leb 1 (i + 1) (omega arith), le-leb (i + 1) (dataOf EB21 q) (omega arith), less)
+      rw (refuses-not (pairBy debitPair q r true) (posted-pair e), le-leb 1 (i + 1) (omega arith), le-leb (i + 1) (dataOf EB21 q) (omega arith), less)

@@ -5,12 +5,12 @@ use mathlib.Core.List.{List, _++_}
 use lib.Dec.{leb, ltb}
 use lib.ListN.{length, drop}
 use Rattle.laws.specs.Joined.{joined}
-use Rattle.kinds.specs.declared.of_files.Kind.the-variants.{EB21}
+use Rattle.kinds.specs.Kinds.{EB21}
 use Rattle.kinds.specs.Kinds.{limit}
 use Rattle.answers.specs.declared.told.Answer.{Answer}
 use Rattle.answers.specs.Answers.{refused, refuses, _then_, accepted}
 use Rattle.records.specs.Records.{dataOf}
-use Rattle.kinds.specs.declared.of_pairs.PairKind.the-variants.{Debit}
+use Rattle.kinds.specs.Pairs.{debitPair}
 use Rattle.pair.specs.Pairing.{onSide, pairBy}
 use Rattle.outcomes.specs.Outcomes.{outcomeAt}
 use Rattle.outcomes.specs.Sums.{sumsOf}
@@ -30,14 +30,14 @@ sizeTells side s = cond (ltb most (length s)) (onSide side (refused 3)) accepted
 
 -- sizes before all else, then the pair
 unfoldable pub postTells : List ℕ → List ℕ → Answer
-postTells q r = sizeTells 1 q then sizeTells 2 r then pairBy Debit q r true
+postTells q r = sizeTells 1 q then sizeTells 2 r then pairBy debitPair q r true
 
 -- the line of request i + 1
 unfoldable pub lineAt : List ℕ → List ℕ → ℕ → List ℕ
-lineAt q r i = requestLine (i + 1) (outcomeAt Debit q r i)
+lineAt q r i = requestLine (i + 1) (outcomeAt debitPair q r i)
 
 unfoldable pub acceptedText : List ℕ → List ℕ → List ℕ
-acceptedText q r = acceptedLine (dataOf EB21 q) (sumsOf Debit q r) ++ joined (lineAt q r) (dataOf EB21 q)
+acceptedText q r = acceptedLine (dataOf EB21 q) (sumsOf debitPair q r) ++ joined (lineAt q r) (dataOf EB21 q)
 
 unfoldable pub postText : List ℕ → List ℕ → List ℕ
 postText q r = cond (refuses (postTells q r)) (refusalLine (postTells q r)) (acceptedText q r)

@@ -3,7 +3,8 @@ ghost use mathlib.Core.Path.{_≡_};
 ghost use Prim.Native.Nat.{_+_, _*_, _≤_};
 ghost use lib.ListN.{length};
 ghost use Rattle.laws.specs.Joined.{joined};
-ghost use Rattle.kinds.specs.Kinds.{limit};
+ghost use Rattle.kinds.specs.Kinds.{limit, EB21};
+ghost use Rattle.kinds.specs.Pairs.{debitPair};
 ghost use Rattle.records.specs.Records.{countOf, dataOf};
 ghost use Rattle.matching.specs.Matching.{resultsFor};
 ghost use Rattle.posting.specs.Posting.{longest, sizeTells, postTells, lineAt, acceptedText, postText, postSize, postAfter};
@@ -54,7 +55,7 @@ fn post_tells(request: &[u8], result: &[u8]) -> Answer
     if of_result.number != 0 {
         return of_result;
     }
-    pairing::pair_by(PairKind::Debit, request, result, true)
+    pairing::pair_by(PairKind::DEBIT, request, result, true)
 }
 
 // The line of each request, one after the other.
@@ -66,9 +67,9 @@ fn put_requests(
     text: &mut [u8],
     at: usize,
 ) -> usize
-    requires { ⌜ n ≡ dataOf Kind.EB21 (now request) ⌝ }
+    requires { ⌜ n ≡ dataOf EB21 (now request) ⌝ }
     requires { ⌜ n ≤ limit ⌝ }
-    requires { ⌜ now results ≡ resultsFor PairKind.Debit (now request) (now result) ⌝ }
+    requires { ⌜ now results ≡ resultsFor debitPair (now request) (now result) ⌝ }
     requires { ⌜ at + n * 80 ≤ length (now text) ⌝ }
     ensures { λ r. ⌜ r ≡ at + length (joined (lineAt (now (request .entry)) (now (result .entry))) n) ⌝ }
     ensures { λ _. ⌜ now (text .exit) ≡ putAt at (joined (lineAt (now (request .entry)) (now (result .entry))) n) (now (text .entry)) ⌝ }
@@ -77,7 +78,7 @@ fn put_requests(
     let mut place = at;
     let mut i = 0;
     while i < n {
-        let outcome = asking::outcome_at(PairKind::Debit, request, result, i, results[i]);
+        let outcome = asking::outcome_at(PairKind::DEBIT, request, result, i, results[i]);
         place = lines::put_request(text, place, (i + 1) as u64, outcome);
         i += 1;
     }
@@ -86,15 +87,15 @@ fn put_requests(
 
 // The totals, then the requests.
 fn put_all(request: &[u8], result: &[u8], results: &[usize], text: &mut [u8]) -> usize
-    requires { ⌜ countOf Kind.EB21 (now request) ≤ limit + 2 ⌝ }
-    requires { ⌜ now results ≡ resultsFor PairKind.Debit (now request) (now result) ⌝ }
+    requires { ⌜ countOf EB21 (now request) ≤ limit + 2 ⌝ }
+    requires { ⌜ now results ≡ resultsFor debitPair (now request) (now result) ⌝ }
     requires { ⌜ longest ≤ length (now text) ⌝ }
     ensures { λ r. ⌜ r ≡ length (acceptedText (now (request .entry)) (now (result .entry))) ⌝ }
     ensures { λ _. ⌜ now (text .exit) ≡ putAt 0 (acceptedText (now (request .entry)) (now (result .entry))) (now (text .entry)) ⌝ }
     ensures { λ r. ⌜ r ≤ longest ⌝ }
 {
     let n = listed::data_count(Kind::EB21, request);
-    let sums = sums::sums_of(PairKind::Debit, request, result, results);
+    let sums = sums::sums_of(PairKind::DEBIT, request, result, results);
     let at = lines::put_accepted(text, 0, n as u64, sums);
     put_requests(request, result, results, n, text, at)
 }
@@ -110,7 +111,7 @@ fn compose(request: &[u8], result: &[u8], frame: &mut [u8]) -> usize
     if answer.number != 0 {
         return lines::put_refusal(frame, 0, answer);
     }
-    let results = lookup::results_for(PairKind::Debit, request, result);
+    let results = lookup::results_for(PairKind::DEBIT, request, result);
     put_all(request, result, &results, frame)
 }
 

@@ -73,7 +73,7 @@ read-named kind s k e = rw e
 -- row j of a data record of an accepted file holds
 pub data-row :
     (k : Kind) (s : List ℕ) → Meets k s → (i : ℕ) → i < dataOf k s → (j : ℕ) → j < length (rowsOf k Data) →
-    holds k (recordOf k s (i + 1)) (recordOf k s 0) (i + 1) (getD (rowsOf k Data) j blank) ≡ true
+    holds (k .own) (recordOf k s (i + 1)) (recordOf k s 0) (i + 1) (getD (rowsOf k Data) j blank) ≡ true
 unfolding roleOf
 data-row k s m i h j l = rw role at (m .rows (i + 1) (omega (arith, m .lengths .fewest)) j (rw role l))
   where

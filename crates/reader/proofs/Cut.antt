@@ -3,7 +3,7 @@
 use Prim.Native.Nat.{ℕ, _+_, _-_, _*_, _≤_, _<_}
 use mathlib.Core.Bool.{true}
 use mathlib.Core.List.{List}
-use mathlib.Core.Path.{_≡_, refl, sym, _∙_, ap}
+use mathlib.Core.Path.{_≡_, sym, _∙_, ap}
 use native.Mathlib.Nat.{le-antisymm, le-trans, lt-of-mul-lt-mul-right}
 use native.Mathlib.Omega.{arith}
 use borrow.Author.Tests.{eq-eqb, ne-eqb}
@@ -13,12 +13,13 @@ use Rattle.laws.specs.Part.{part}
 use Rattle.laws.proofs.Parts.{part-length, part-at, part-take}
 use Rattle.text.proofs.Classes.{within-low, within-high, each-at}
 use Rattle.kinds.specs.declared.of_files.Kind.{Kind}
-use Rattle.kinds.specs.declared.of_files.Kind.the-variants.{EB13, EB14, EB21, EB22}
+use Rattle.kinds.specs.declared.of_files.Own.{Own}
 use Rattle.kinds.specs.declared.of_files.Role.the-variants.{Data, Trailer}
 use Rattle.tables.specs.declared.rows.Row.{Row}
 use Rattle.kinds.specs.Kinds.{fixedOf}
 use Rattle.tables.specs.Rows.{row, only, blank}
-use Rattle.tables.specs.Tables.{dataFront, enrolmentData, debitData, eb13Data, eb14Data, eb21Data, eb22Data, trailerFront, enrolmentTrailer, eb13Trailer, eb14Trailer, eb21Trailer, eb22Trailer, rowsOf}
+use Rattle.tables.specs.Tables.{dataFront, trailerFront, rowsOf}
+use Rattle.tables.proofs.Fronts.{front-row, front-some}
 use Rattle.tables.proofs.Tiling.{size-least}
 use Rattle.answers.specs.Answers.{accepted}
 use Rattle.layout.specs.Rules.{meets, holds}
@@ -31,37 +32,25 @@ use Rattle.reader.proofs.Exact.{read-exact}
 
 -- the first row of a data record and of a trailer, of every kind, is its mark
 data-first : (k : Kind) → getD (rowsOf k Data) 0 blank ≡ row 1 0 1 (only 0x52) 0x30303831
-unfolding dataFront enrolmentData debitData eb13Data eb14Data eb21Data eb22Data
-data-first EB13 = refl
-data-first EB14 = refl
-data-first EB21 = refl
-data-first EB22 = refl
+unfolding dataFront
+data-first k = front-row k Data 0 (omega arith)
 
 data-some : (k : Kind) → 0 < length (rowsOf k Data)
-unfolding dataFront enrolmentData debitData eb13Data eb14Data eb21Data eb22Data
-data-some EB13 = omega arith
-data-some EB14 = omega arith
-data-some EB21 = omega arith
-data-some EB22 = omega arith
+unfolding dataFront
+data-some k = front-some k Data 0 (omega arith)
 
 trailer-first : (k : Kind) → getD (rowsOf k Trailer) 0 blank ≡ row 1 0 1 (only 0x54) 0x30303831
-unfolding trailerFront enrolmentTrailer eb13Trailer eb14Trailer eb21Trailer eb22Trailer
-trailer-first EB13 = refl
-trailer-first EB14 = refl
-trailer-first EB21 = refl
-trailer-first EB22 = refl
+unfolding trailerFront
+trailer-first k = front-row k Trailer 0 (omega arith)
 
 trailer-some : (k : Kind) → 0 < length (rowsOf k Trailer)
-unfolding trailerFront enrolmentTrailer eb13Trailer eb14Trailer eb21Trailer eb22Trailer
-trailer-some EB13 = omega arith
-trailer-some EB14 = omega arith
-trailer-some EB21 = omega arith
-trailer-some EB22 = omega arith
+unfolding trailerFront
+trailer-some k = front-some k Trailer 0 (omega arith)
 
 -- a mark that holds is the record's first byte
-mark-byte : (k : Kind) (rec header : List ℕ) (n b code : ℕ) (r : Row) → r ≡ row 1 0 1 (only b) code → 1 ≤ length rec → holds k rec header n r ≡ true → getD rec 0 0 ≡ b
+mark-byte : (o : Own) (rec header : List ℕ) (n b code : ℕ) (r : Row) → r ≡ row 1 0 1 (only b) code → 1 ≤ length rec → holds o rec header n r ≡ true → getD rec 0 0 ≡ b
 unfolding holds meets
-mark-byte k rec header n b code r e l h =
+mark-byte o rec header n b code r e l h =
     let t = each-at b b (part 0 1 rec) (rw e at h) 0 (rw (part-length 0 1 rec l) (omega arith)) in
     let a : getD (part 0 1 rec) 0 0 ≡ b = le-antisymm (within-high b b _ t) (within-low b b _ t) in
     sym (part-at 0 1 rec 0 (omega arith)) ∙ a
@@ -76,7 +65,7 @@ module _ (k : Kind) (s : List ℕ) (m : Meets k s) where
   pub data-mark : (i : ℕ) → 0 < i → i + 1 < countOf k s → getD (recordOf k s i) 0 0 ≡ 0x52
   unfolding roleOf
   data-mark i p h =
-      mark-byte k (recordOf k s i) (recordOf k s 0) i 0x52 0x30303831 (getD (rowsOf k Data) 0 blank) (data-first k)
+      mark-byte (k .own) (recordOf k s i) (recordOf k s 0) i 0x52 0x30303831 (getD (rowsOf k Data) 0 blank) (data-first k)
       (omega (arith, size-least k, record-length i (omega arith)))
       (rw (role i p h) at (m .rows i (omega arith) 0 (rw (role i p h) (data-some k))))
     where
@@ -86,7 +75,7 @@ module _ (k : Kind) (s : List ℕ) (m : Meets k s) where
   pub trailer-mark : (i : ℕ) → 0 < i → i + 1 ≡ countOf k s → getD (recordOf k s i) 0 0 ≡ 0x54
   unfolding roleOf
   trailer-mark i p e =
-      mark-byte k (recordOf k s i) (recordOf k s 0) i 0x54 0x30303831 (getD (rowsOf k Trailer) 0 blank) (trailer-first k)
+      mark-byte (k .own) (recordOf k s i) (recordOf k s 0) i 0x54 0x30303831 (getD (rowsOf k Trailer) 0 blank) (trailer-first k)
       (omega (arith, size-least k, record-length i (omega arith)))
       (rw (role i p e) at (m .rows i (omega arith) 0 (rw (role i p e) (trailer-some k))))
     where

@@ -38,6 +38,9 @@ module _ (k : Kind) (s : List ℕ) where
   unfolding readAs
   read-stops a e ne = then-first _ _ (λ z. ne (number-of (sym e) ∙ z)) ∙ e
 
+  pub read-short : isWhole k s ≡ false → readAs k s ≡ refused 2
+  read-short f = read-stops (refused 2) (length-short k s f) (λ z. omega arith)
+
   -- the stages after a good one
   after-length : Lengths k s → readAs k s ≡ (recordsTell k s then totalsTell k s then keysTell k s)
   unfolding readAs
@@ -55,7 +58,7 @@ module _ (k : Kind) (s : List ℕ) where
 
   -- the record of the first refusal, and its first broken row
   tells : ℕ → ℕ → Answer
-  tells i = rowTells k (rowsAt k s i) (recordOf k s i) (recordOf k s 0) i
+  tells i = rowTells (k .own) (rowsAt k s i) (recordOf k s i) (recordOf k s 0) i
 
   judged-tells : (i : ℕ) → judgedAt k s i ≡ firstTold (tells i) (length (rowsAt k s i))
   unfolding judgedAt judgeOf judgeBy tells
@@ -70,15 +73,15 @@ module _ (k : Kind) (s : List ℕ) where
 
       fails : (j : ℕ) → First (tells i) (length (rowsAt k s i)) j → rowHolds k s i j ≡ false
       fails j r =
-          ⊎-elim (λ t. absurd (r .bad (row-good k (rowsAt k s i) (recordOf k s i) (recordOf k s 0) i j t))) (λ n. n) (either (rowHolds k s i j))
+          ⊎-elim (λ t. absurd (r .bad (row-good (k .own) (rowsAt k s i) (recordOf k s i) (recordOf k s 0) i j t))) (λ n. n) (either (rowHolds k s i j))
 
       found : ((j : ℕ) × First (tells i) (length (rowsAt k s i)) j) → Says k s (judgedAt k s i)
       found p =
           let j = p .0 in
           let r = p .1 in
-          rw (judged-tells i, r .told, row-bad k (rowsAt k s i) (recordOf k s i) (recordOf k s 0) i j (fails j r))
+          rw (judged-tells i, r .told, row-bad (k .own) (rowsAt k s i) (recordOf k s i) (recordOf k s 0) i j (fails j r))
           (Says.row i j l (f .below) (r .below) (fails j r)
-          (λ m h. row-holds k (rowsAt k s i) (recordOf k s i) (recordOf k s 0) i m (r .before m h))
+          (λ m h. row-holds (k .own) (rowsAt k s i) (recordOf k s i) (recordOf k s 0) i m (r .before m h))
           (λ m h. record-good k s m (f .before m h)))
 
   says-records : Lengths k s → ((i : ℕ) × First (judgedAt k s) (countOf k s) i) → Says k s (readAs k s)

@@ -31,11 +31,11 @@ module _ (k : Kind) (s : List ℕ) where
   -- record i is good exactly when its rows hold
   pub record-good : (i : ℕ) → judgedAt k s i .number ≡ 0 → (j : ℕ) → j < length (rowsAt k s i) → rowHolds k s i j ≡ true
   unfolding judgedAt judgeOf
-  record-good i e = judge-exact k (rowsAt k s i) _ _ i .0 e
+  record-good i e = judge-exact (k .own) (rowsAt k s i) _ _ i .0 e
 
   pub good-record : (i : ℕ) → ((j : ℕ) → j < length (rowsAt k s i) → rowHolds k s i j ≡ true) → judgedAt k s i .number ≡ 0
   unfolding judgedAt judgeOf
-  good-record i h = judge-exact k (rowsAt k s i) _ _ i .1 h
+  good-record i h = judge-exact (k .own) (rowsAt k s i) _ _ i .1 h
 
   -- total j is good exactly when it holds
   pub good-total : (j : ℕ) → totalAt k s j ≡ true → totalTells k s j .number ≡ 0

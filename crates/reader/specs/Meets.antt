@@ -27,7 +27,7 @@ abbrev pub rowsAt : Kind → List ℕ → ℕ → List Row
 rowsAt k s i = rowsOf k (roleOf (countOf k s) i)
 
 abbrev pub rowHolds : Kind → List ℕ → ℕ → ℕ → Bool
-rowHolds k s i j = holds k (recordOf k s i) (recordOf k s 0) i (getD (rowsAt k s i) j blank)
+rowHolds k s i j = holds (k .own) (recordOf k s i) (recordOf k s 0) i (getD (rowsAt k s i) j blank)
 
 -- every row of the first n records holds
 abbrev pub RowsHold : Kind → List ℕ → ℕ → Type 0

@@ -1,26 +1,26 @@
 -- The laws of `laidOut`: blank rows behind a table change no search, and no record has more rows than places.
 -- Assumes nothing.
 use Prim.Native.Nat.{ℕ, zero, suc, _+_, _≤_, _<_, zero-le}
-use mathlib.Core.Bool.{Bool}
+use mathlib.Core.Bool.{Bool, true}
 use mathlib.Core.List.{List, [], _∷_}
 use mathlib.Core.Logic.{⊎-elim}
 use mathlib.Core.Path.{_≡_, refl, ap}
 use native.Mathlib.Nat.{le-refl, le-of-suc-le-suc, not-suc-le-zero, eq-or-lt-of-le}
 use native.Mathlib.Omega.{arith}
-use borrow.Author.Tests.{ltb-true, ltb-false}
-use lib.Dec.{ltb}
+use borrow.Author.Tests.{ltb-true, ltb-false, leb-true}
+use lib.Dec.{leb, ltb}
 use lib.ListN.{length, getD, List·getD-eq-default}
 use Rattle.laws.specs.Least.{least}
 use Rattle.laws.proofs.Bools.{either, clash}
 use Rattle.laws.proofs.Leasts.{Least, least-is, least-only, least-same}
 use Rattle.kinds.specs.declared.of_files.Kind.{Kind}
-use Rattle.kinds.specs.declared.of_files.Kind.the-variants.{EB13, EB14, EB21, EB22}
+use Rattle.kinds.specs.declared.of_files.Form.{Form}
 use Rattle.kinds.specs.declared.of_files.Role.{Role}
-use Rattle.kinds.specs.declared.of_files.Role.the-variants.{Header, Data, Trailer}
 use Rattle.tables.specs.declared.rows.Row.{Row}
 use Rattle.kinds.specs.Kinds.{fixedOf}
+use Rattle.kinds.proofs.Forms.{of-record}
 use Rattle.tables.specs.Rows.{blank}
-use Rattle.tables.specs.Tables.{headerFront, enrolmentHeader, debitHeader, dataFront, enrolmentData, debitData, eb13Data, eb14Data, eb21Data, eb22Data, trailerFront, enrolmentTrailer, eb13Trailer, eb14Trailer, eb21Trailer, eb22Trailer, rowsOf}
+use Rattle.tables.specs.Tables.{headerFront, enrolmentHeader, debitHeader, dataFront, enrolmentData, debitData, enrolmentRequestData, enrolmentResultData, debitRequestData, debitResultData, trailerFront, enrolmentTrailer, enrolmentRequestTrailer, enrolmentResultTrailer, debitRequestTrailer, debitResultTrailer, rowsFor, rowsOf}
 use Rattle.tables.proofs.Tiling.{row-inside}
 use Rattle.rows.specs.Laid.{laid, most, laidOut}
 
@@ -79,20 +79,13 @@ module _ (p : Row → Bool) (rows : List Row) where
   first-laid h =
       rw (as-long most rows, at-place most rows h, least-same (at p (laid most rows)) (at p rows) most (λ k l. rw (at-place most rows h k))) (past most h)
 
+-- no record of any form has more rows than places
+tables-fit : (f : Form) (role : Role) → leb (length (rowsFor f role)) most ≡ true
+unfolding headerFront enrolmentHeader debitHeader dataFront enrolmentData debitData enrolmentRequestData enrolmentResultData debitRequestData debitResultData trailerFront enrolmentTrailer enrolmentRequestTrailer enrolmentResultTrailer debitRequestTrailer debitResultTrailer
+tables-fit = of-record (λ f role. leb (length (rowsFor f role)) most) refl
+
 pub rows-fit : (k : Kind) (role : Role) → length (rowsOf k role) ≤ most
-unfolding headerFront enrolmentHeader debitHeader dataFront enrolmentData debitData eb13Data eb14Data eb21Data eb22Data trailerFront enrolmentTrailer eb13Trailer eb14Trailer eb21Trailer eb22Trailer
-rows-fit EB13 Header = omega arith
-rows-fit EB13 Data = omega arith
-rows-fit EB13 Trailer = omega arith
-rows-fit EB14 Header = omega arith
-rows-fit EB14 Data = omega arith
-rows-fit EB14 Trailer = omega arith
-rows-fit EB21 Header = omega arith
-rows-fit EB21 Data = omega arith
-rows-fit EB21 Trailer = omega arith
-rows-fit EB22 Header = omega arith
-rows-fit EB22 Data = omega arith
-rows-fit EB22 Trailer = omega arith
+rows-fit k role = leb-true (length (rowsOf k role)) most (tables-fit (k .form) role)
 
 row-within : (k : Kind) (role : Role) (i : ℕ) → getD (rowsOf k role) i blank .1 + getD (rowsOf k role) i blank .2 ≤ fixedOf k .size
 row-within k role i =

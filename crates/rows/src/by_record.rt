@@ -1,7 +1,8 @@
-// The rows of every record of every kind. A code is its four bytes as one number; "0000" where breaking the rule is refusal 5.
+// The rows of every record of every form. A code is its four bytes as one number; "0000" where breaking the rule is refusal 5.
 ghost use mathlib.Core.Path.{_≡_};
-ghost use Rattle.tables.specs.Tables.{enrolmentHeader, debitHeader, eb13Data, eb14Data, eb21Data, eb22Data, eb13Trailer, eb14Trailer, eb21Trailer, eb22Trailer, rowsOf};
+ghost use Rattle.tables.specs.Tables.{enrolmentHeader, debitHeader, enrolmentRequestData, enrolmentResultData, debitRequestData, debitResultData, enrolmentRequestTrailer, enrolmentResultTrailer, debitRequestTrailer, debitResultTrailer, rowsOf};
 ghost use Rattle.rows.specs.Laid.{laidOut};
+use kinds::of_files::Form;
 use kinds::of_files::Kind;
 use kinds::of_files::Role;
 use tables::rows::Class;
@@ -98,7 +99,7 @@ const DEBIT_HEADER: [Row; MOST] = [
     BLANK,
 ];
 
-const EB13_DATA: [Row; MOST] = [
+const ENROLMENT_REQUEST_DATA: [Row; MOST] = [
     Row(1, 0, 1, MARK_R, C0081),
     Row(2, 1, 8, Class::Serial, C0081),
     Row(3, 9, 10, Class::AsHeader, C0000),
@@ -118,7 +119,7 @@ const EB13_DATA: [Row; MOST] = [
     BLANK,
 ];
 
-const EB14_DATA: [Row; MOST] = [
+const ENROLMENT_RESULT_DATA: [Row; MOST] = [
     Row(1, 0, 1, MARK_R, C0081),
     Row(2, 1, 8, Class::Serial, C0081),
     Row(3, 9, 10, Class::AsHeader, C0000),
@@ -138,7 +139,7 @@ const EB14_DATA: [Row; MOST] = [
     BLANK,
 ];
 
-const EB21_DATA: [Row; MOST] = [
+const DEBIT_REQUEST_DATA: [Row; MOST] = [
     Row(1, 0, 1, MARK_R, C0081),
     Row(2, 1, 8, Class::Serial, C0081),
     Row(3, 9, 10, Class::AsHeader, C0000),
@@ -158,7 +159,7 @@ const EB21_DATA: [Row; MOST] = [
     Row(15, 129, 21, SPACES, C0089),
 ];
 
-const EB22_DATA: [Row; MOST] = [
+const DEBIT_RESULT_DATA: [Row; MOST] = [
     Row(1, 0, 1, MARK_R, C0081),
     Row(2, 1, 8, Class::Serial, C0081),
     Row(3, 9, 10, Class::AsHeader, C0000),
@@ -178,7 +179,7 @@ const EB22_DATA: [Row; MOST] = [
     BLANK,
 ];
 
-const EB13_TRAILER: [Row; MOST] = [
+const ENROLMENT_REQUEST_TRAILER: [Row; MOST] = [
     Row(1, 0, 1, MARK_T, C0081),
     Row(2, 1, 8, NINES, C0081),
     Row(3, 9, 10, Class::AsHeader, C0000),
@@ -198,7 +199,7 @@ const EB13_TRAILER: [Row; MOST] = [
     BLANK,
 ];
 
-const EB14_TRAILER: [Row; MOST] = [
+const ENROLMENT_RESULT_TRAILER: [Row; MOST] = [
     Row(1, 0, 1, MARK_T, C0081),
     Row(2, 1, 8, NINES, C0081),
     Row(3, 9, 10, Class::AsHeader, C0000),
@@ -218,7 +219,7 @@ const EB14_TRAILER: [Row; MOST] = [
     BLANK,
 ];
 
-const EB21_TRAILER: [Row; MOST] = [
+const DEBIT_REQUEST_TRAILER: [Row; MOST] = [
     Row(1, 0, 1, MARK_T, C0081),
     Row(2, 1, 8, NINES, C0081),
     Row(3, 9, 10, Class::AsHeader, C0000),
@@ -238,7 +239,7 @@ const EB21_TRAILER: [Row; MOST] = [
     BLANK,
 ];
 
-const EB22_TRAILER: [Row; MOST] = [
+const DEBIT_RESULT_TRAILER: [Row; MOST] = [
     Row(1, 0, 1, MARK_T, C0081),
     Row(2, 1, 8, NINES, C0081),
     Row(3, 9, 10, Class::AsHeader, C0000),
@@ -270,76 +271,77 @@ fn debit_header() -> [Row; MOST]
     DEBIT_HEADER
 }
 
-fn eb13_data() -> [Row; MOST]
-    ensures { λ r. ⌜ r ≡ laidOut eb13Data ⌝ }
+fn enrolment_request_data() -> [Row; MOST]
+    ensures { λ r. ⌜ r ≡ laidOut enrolmentRequestData ⌝ }
 {
-    EB13_DATA
+    ENROLMENT_REQUEST_DATA
 }
 
-fn eb14_data() -> [Row; MOST]
-    ensures { λ r. ⌜ r ≡ laidOut eb14Data ⌝ }
+fn enrolment_result_data() -> [Row; MOST]
+    ensures { λ r. ⌜ r ≡ laidOut enrolmentResultData ⌝ }
 {
-    EB14_DATA
+    ENROLMENT_RESULT_DATA
 }
 
-fn eb21_data() -> [Row; MOST]
-    ensures { λ r. ⌜ r ≡ laidOut eb21Data ⌝ }
+fn debit_request_data() -> [Row; MOST]
+    ensures { λ r. ⌜ r ≡ laidOut debitRequestData ⌝ }
 {
-    EB21_DATA
+    DEBIT_REQUEST_DATA
 }
 
-fn eb22_data() -> [Row; MOST]
-    ensures { λ r. ⌜ r ≡ laidOut eb22Data ⌝ }
+fn debit_result_data() -> [Row; MOST]
+    ensures { λ r. ⌜ r ≡ laidOut debitResultData ⌝ }
 {
-    EB22_DATA
+    DEBIT_RESULT_DATA
 }
 
-fn eb13_trailer() -> [Row; MOST]
-    ensures { λ r. ⌜ r ≡ laidOut eb13Trailer ⌝ }
+fn enrolment_request_trailer() -> [Row; MOST]
+    ensures { λ r. ⌜ r ≡ laidOut enrolmentRequestTrailer ⌝ }
 {
-    EB13_TRAILER
+    ENROLMENT_REQUEST_TRAILER
 }
 
-fn eb14_trailer() -> [Row; MOST]
-    ensures { λ r. ⌜ r ≡ laidOut eb14Trailer ⌝ }
+fn enrolment_result_trailer() -> [Row; MOST]
+    ensures { λ r. ⌜ r ≡ laidOut enrolmentResultTrailer ⌝ }
 {
-    EB14_TRAILER
+    ENROLMENT_RESULT_TRAILER
 }
 
-fn eb21_trailer() -> [Row; MOST]
-    ensures { λ r. ⌜ r ≡ laidOut eb21Trailer ⌝ }
+fn debit_request_trailer() -> [Row; MOST]
+    ensures { λ r. ⌜ r ≡ laidOut debitRequestTrailer ⌝ }
 {
-    EB21_TRAILER
+    DEBIT_REQUEST_TRAILER
 }
 
-fn eb22_trailer() -> [Row; MOST]
-    ensures { λ r. ⌜ r ≡ laidOut eb22Trailer ⌝ }
+fn debit_result_trailer() -> [Row; MOST]
+    ensures { λ r. ⌜ r ≡ laidOut debitResultTrailer ⌝ }
 {
-    EB22_TRAILER
+    DEBIT_RESULT_TRAILER
 }
 
 // The rows of the record, handed out once for all of them.
 pub fn rows_of(kind: Kind, role: Role) -> [Row; MOST]
     ensures { λ r. ⌜ r ≡ laidOut (rowsOf kind role) ⌝ }
 {
+    let form = kind.form;
     match role {
-        Role::Header => match kind {
-            Kind::EB13 => enrolment_header(),
-            Kind::EB14 => enrolment_header(),
-            Kind::EB21 => debit_header(),
-            Kind::EB22 => debit_header(),
+        Role::Header => match form {
+            Form::EnrolmentRequest => enrolment_header(),
+            Form::EnrolmentResult => enrolment_header(),
+            Form::DebitRequest => debit_header(),
+            Form::DebitResult => debit_header(),
         },
-        Role::Data => match kind {
-            Kind::EB13 => eb13_data(),
-            Kind::EB14 => eb14_data(),
-            Kind::EB21 => eb21_data(),
-            Kind::EB22 => eb22_data(),
+        Role::Data => match form {
+            Form::EnrolmentRequest => enrolment_request_data(),
+            Form::EnrolmentResult => enrolment_result_data(),
+            Form::DebitRequest => debit_request_data(),
+            Form::DebitResult => debit_result_data(),
         },
-        Role::Trailer => match kind {
-            Kind::EB13 => eb13_trailer(),
-            Kind::EB14 => eb14_trailer(),
-            Kind::EB21 => eb21_trailer(),
-            Kind::EB22 => eb22_trailer(),
+        Role::Trailer => match form {
+            Form::EnrolmentRequest => enrolment_request_trailer(),
+            Form::EnrolmentResult => enrolment_result_trailer(),
+            Form::DebitRequest => debit_request_trailer(),
+            Form::DebitResult => debit_result_trailer(),
         },
     }
 }

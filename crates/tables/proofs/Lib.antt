@@ -2,3 +2,4 @@
 pub mod Tiling
 pub mod Counts
 pub mod Placing
+pub mod Fronts

@@ -7,34 +7,26 @@ use mathlib.Core.Path.{_≡_, refl}
 use mathlib.Core.Logic.{⊎-elim}
 use native.Mathlib.Nat.{le-trans, le-of-eq, le-of-suc-le-suc, not-suc-le-zero}
 use native.Mathlib.Omega.{arith}
-use borrow.Author.Tests.{eqb-true}
-use lib.Dec.{eqb}
+use borrow.Author.Tests.{eqb-true, leb-true}
+use lib.Dec.{eqb, leb}
 use lib.ListN.{length, getD}
 use Rattle.laws.proofs.Bools.{and-left, and-right, or-cases}
 use Rattle.kinds.specs.declared.of_files.Kind.{Kind}
-use Rattle.kinds.specs.declared.of_files.Kind.the-variants.{EB13, EB14, EB21, EB22}
+use Rattle.kinds.specs.declared.of_files.Form.{Form}
 use Rattle.kinds.specs.declared.of_files.Role.{Role}
-use Rattle.kinds.specs.declared.of_files.Role.the-variants.{Header, Data, Trailer}
 use Rattle.tables.specs.declared.rows.Row.{Row}
-use Rattle.kinds.specs.Kinds.{fixedOf}
+use Rattle.kinds.specs.Kinds.{fixedFor, fixedOf}
+use Rattle.kinds.proofs.Forms.{of-form, of-record}
 use Rattle.tables.specs.Rows.{blank, next, tilesFrom, tiles}
-use Rattle.tables.specs.Tables.{headerFront, enrolmentHeader, debitHeader, dataFront, enrolmentData, debitData, eb13Data, eb14Data, eb21Data, eb22Data, trailerFront, enrolmentTrailer, eb13Trailer, eb14Trailer, eb21Trailer, eb22Trailer, rowsOf}
+use Rattle.tables.specs.Tables.{headerFront, enrolmentHeader, debitHeader, dataFront, enrolmentData, debitData, enrolmentRequestData, enrolmentResultData, debitRequestData, debitResultData, trailerFront, enrolmentTrailer, enrolmentRequestTrailer, enrolmentResultTrailer, debitRequestTrailer, debitResultTrailer, rowsFor, rowsOf}
 
--- the computed test, once over each table
+-- the computed test, once over all tables
+tables-tile : (f : Form) (role : Role) → tiles (fixedFor f .size) (rowsFor f role) ≡ true
+unfolding tiles tilesFrom next headerFront enrolmentHeader debitHeader dataFront enrolmentData debitData enrolmentRequestData enrolmentResultData debitRequestData debitResultData trailerFront enrolmentTrailer enrolmentRequestTrailer enrolmentResultTrailer debitRequestTrailer debitResultTrailer
+tables-tile = of-record (λ f role. tiles (fixedFor f .size) (rowsFor f role)) refl
+
 pub rows-tile : (k : Kind) (role : Role) → tiles (fixedOf k .size) (rowsOf k role) ≡ true
-unfolding tiles tilesFrom next headerFront enrolmentHeader debitHeader dataFront enrolmentData debitData eb13Data eb14Data eb21Data eb22Data trailerFront enrolmentTrailer eb13Trailer eb14Trailer eb21Trailer eb22Trailer
-rows-tile EB13 Header = refl
-rows-tile EB13 Data = refl
-rows-tile EB13 Trailer = refl
-rows-tile EB14 Header = refl
-rows-tile EB14 Data = refl
-rows-tile EB14 Trailer = refl
-rows-tile EB21 Header = refl
-rows-tile EB21 Data = refl
-rows-tile EB21 Trailer = refl
-rows-tile EB22 Header = refl
-rows-tile EB22 Data = refl
-rows-tile EB22 Trailer = refl
+rows-tile k role = tables-tile (k .form) role
 
 -- a row that comes next ends no earlier
 next-end : (r : Row) (item start size : ℕ) → next r item start size ≡ true → start + size ≤ r .1 + r .2
@@ -78,9 +70,6 @@ pub row-inside : (k : Kind) (role : Role) (i : ℕ) → i < length (rowsOf k rol
 unfolding tiles
 row-inside k role i h = tiles-inside (fixedOf k .size) 0 0 0 (rowsOf k role) (rows-tile k role) i h
 
--- a record of any kind has at least 120 bytes
+-- a record of any form has at least 120 bytes
 pub size-least : (k : Kind) → 120 ≤ fixedOf k .size
-size-least EB13 = omega arith
-size-least EB14 = omega arith
-size-least EB21 = omega arith
-size-least EB22 = omega arith
+size-least k = leb-true 120 (fixedOf k .size) (of-form (λ f. leb 120 (fixedFor f .size)) refl (k .form))

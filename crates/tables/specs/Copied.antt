@@ -4,10 +4,11 @@ use mathlib.Core.Bool.{Bool, false, cond, _||_}
 use mathlib.Core.List.{List, [], _∷_}
 use lib.Dec.{eqb}
 use Rattle.kinds.specs.declared.of_files.Kind.{Kind}
-use Rattle.kinds.specs.declared.of_files.Kind.the-variants.{EB13, EB14, EB21, EB22}
+use Rattle.kinds.specs.declared.of_files.Form.{Form}
+use Rattle.kinds.specs.declared.of_files.Form.the-variants.{EnrolmentRequest, EnrolmentResult, DebitRequest, DebitResult}
 use Rattle.tables.specs.declared.rows.Row.{Row}
 use Rattle.tables.specs.declared.copied.Copied.{Copied}
-use Rattle.tables.specs.Tables.{eb13Data, eb21Data}
+use Rattle.tables.specs.Tables.{enrolmentRequestData, debitRequestData}
 
 -- item, start, length
 abbrev pub noItem : Copied
@@ -26,14 +27,17 @@ itemsBut out last (r ∷ rows) =
 
 -- all but 1, 2 and the result, item 12
 unfoldable pub enrolmentCopied : List Copied
-enrolmentCopied = itemsBut (1 ∷ 2 ∷ 12 ∷ []) 0 eb13Data
+enrolmentCopied = itemsBut (1 ∷ 2 ∷ 12 ∷ []) 0 enrolmentRequestData
 
 -- all but 1, 2, the amount, item 6, and the result, item 8
 unfoldable pub debitCopied : List Copied
-debitCopied = itemsBut (1 ∷ 2 ∷ 6 ∷ 8 ∷ []) 0 eb21Data
+debitCopied = itemsBut (1 ∷ 2 ∷ 6 ∷ 8 ∷ []) 0 debitRequestData
+
+abbrev pub copiedFor : Form → List Copied
+copiedFor EnrolmentRequest = enrolmentCopied
+copiedFor EnrolmentResult = enrolmentCopied
+copiedFor DebitRequest = debitCopied
+copiedFor DebitResult = debitCopied
 
 abbrev pub copiedOf : Kind → List Copied
-copiedOf EB13 = enrolmentCopied
-copiedOf EB14 = enrolmentCopied
-copiedOf EB21 = debitCopied
-copiedOf EB22 = debitCopied
+copiedOf k = copiedFor (k .form)

@@ -3,19 +3,16 @@ use Prim.Native.Nat.{ℕ, _+_}
 use mathlib.Core.Bool.{Bool, true, false, cond, _&&_, _||_}
 use mathlib.Core.List.{List, [], _∷_}
 use lib.Dec.{eqb}
-use Rattle.kinds.specs.declared.of_files.Kind.{Kind}
-use Rattle.kinds.specs.declared.of_files.Kind.the-variants.{EB13, EB14, EB21, EB22}
+use Rattle.kinds.specs.declared.of_files.Form.{Form}
+use Rattle.kinds.specs.declared.of_files.Form.the-variants.{EnrolmentRequest, EnrolmentResult, DebitRequest, DebitResult}
 use Rattle.kinds.specs.declared.of_files.Role.the-variants.{Header, Data, Trailer}
-use Rattle.kinds.specs.Kinds.{front, fixedOf}
-use Rattle.kinds.specs.Pairs.{markStart}
-use Rattle.kinds.specs.declared.of_pairs.PairKind.{PairKind}
-use Rattle.kinds.specs.declared.of_pairs.PairKind.the-variants.{Enrolment, Debit}
+use Rattle.kinds.specs.Kinds.{front, fixedFor}
 use Rattle.tables.specs.declared.rows.Row.{Row}
 use Rattle.tables.specs.declared.totals.Total.{Total}
 use Rattle.tables.specs.declared.copied.Copied.{Copied}
 use Rattle.tables.specs.Copied.{noItem}
-use Rattle.tables.specs.Tables.{rowsOf}
-use Rattle.tables.specs.Totals.{totalsOf}
+use Rattle.tables.specs.Tables.{rowsFor}
+use Rattle.tables.specs.Totals.{totalsFor}
 
 abbrev pub place : ℕ → ℕ → ℕ → Copied
 place item start size = record { 0 = item; 1 = start; 2 = size }
@@ -80,42 +77,49 @@ unfoldable pub totalsStand : List Row → List Total → Bool
 totalsStand rows [] = true
 totalsStand rows (t ∷ ts) = stands rows (place (t .0) (t .1) (t .2)) && totalsStand rows ts
 
--- the items of a header, of a data record and of the key that are read beside their rows
-abbrev pub headerPlaces : Kind → List Copied
-headerPlaces EB13 = codePlace ∷ nameDayPlace ∷ datePlace ∷ []
-headerPlaces EB14 = codePlace ∷ nameDayPlace ∷ datePlace ∷ []
-headerPlaces EB21 = codePlace ∷ nameDayPlace ∷ datePlace ∷ branchPlace ∷ accountPlace ∷ []
-headerPlaces EB22 = codePlace ∷ nameDayPlace ∷ datePlace ∷ branchPlace ∷ accountPlace ∷ []
+-- the items of a header and of a data record that are read beside their rows
+abbrev pub headerPlaces : Form → List Copied
+headerPlaces EnrolmentRequest = codePlace ∷ nameDayPlace ∷ datePlace ∷ []
+headerPlaces EnrolmentResult = codePlace ∷ nameDayPlace ∷ datePlace ∷ []
+headerPlaces DebitRequest = codePlace ∷ nameDayPlace ∷ datePlace ∷ branchPlace ∷ accountPlace ∷ []
+headerPlaces DebitResult = codePlace ∷ nameDayPlace ∷ datePlace ∷ branchPlace ∷ accountPlace ∷ []
 
-abbrev pub dataPlaces : Kind → List Copied
-dataPlaces EB13 = applicationPlace ∷ memberPlace ∷ enrolledPlace ∷ []
-dataPlaces EB14 = applicationPlace ∷ memberPlace ∷ enrolledPlace ∷ []
-dataPlaces EB21 = amountPlace ∷ debitedPlace ∷ payerPlace ∷ usePlace ∷ typePlace ∷ []
-dataPlaces EB22 = amountPlace ∷ debitedPlace ∷ payerPlace ∷ usePlace ∷ typePlace ∷ []
+abbrev pub dataPlaces : Form → List Copied
+dataPlaces EnrolmentRequest = applicationPlace ∷ memberPlace ∷ enrolledPlace ∷ []
+dataPlaces EnrolmentResult = applicationPlace ∷ memberPlace ∷ enrolledPlace ∷ []
+dataPlaces DebitRequest = amountPlace ∷ debitedPlace ∷ payerPlace ∷ usePlace ∷ typePlace ∷ []
+dataPlaces DebitResult = amountPlace ∷ debitedPlace ∷ payerPlace ∷ usePlace ∷ typePlace ∷ []
 
--- the key is two items side by side
-unfoldable pub keyIs : Kind → Copied → Copied → Bool
-keyIs k first second =
-    eqb (fixedOf k .key .start) (first .1) && (eqb (first .1 + first .2) (second .1) && eqb (fixedOf k .key .size) (first .2 + second .2))
+-- the key is two items side by side, reported as `reported`; a result's mark begins the item of its result
+unfoldable pub keyIs : Form → Copied → Copied → Copied → Bool
+keyIs f first second reported =
+    eqb (fixedFor f .key .start) (first .1) && (eqb (first .1 + first .2) (second .1) && (eqb (fixedFor f .key .size) (first .2 + second .2) &&
+    eqb (fixedFor f .key .item) (reported .0)))
 
--- it is reported as the payer's item
-abbrev pub keyStands : Kind → Bool
-keyStands EB13 = keyIs EB13 applicationPlace memberPlace && eqb (fixedOf EB13 .key .item) (memberPlace .0)
-keyStands EB14 = keyIs EB14 applicationPlace memberPlace && eqb (fixedOf EB14 .key .item) (memberPlace .0)
-keyStands EB21 = keyIs EB21 payerPlace usePlace && eqb (fixedOf EB21 .key .item) (payerPlace .0)
-keyStands EB22 = keyIs EB22 payerPlace usePlace && eqb (fixedOf EB22 .key .item) (payerPlace .0)
+abbrev pub keyStands : Form → Bool
+keyStands EnrolmentRequest = keyIs EnrolmentRequest applicationPlace memberPlace memberPlace
+keyStands EnrolmentResult = keyIs EnrolmentResult applicationPlace memberPlace memberPlace
+keyStands DebitRequest = keyIs DebitRequest payerPlace usePlace payerPlace
+keyStands DebitResult = keyIs DebitResult payerPlace usePlace payerPlace
 
--- a body begins where item 4 does and ends with the record
-unfoldable pub bodyStands : Kind → Bool
-bodyStands k = eqb (placeIn (rowsOf k Data) 4 .1) front && eqb (front + fixedOf k .body) (fixedOf k .size)
+abbrev pub markStands : Form → Bool
+markStands EnrolmentRequest = eqb (fixedFor EnrolmentRequest .mark) (enrolledPlace .1)
+markStands EnrolmentResult = eqb (fixedFor EnrolmentResult .mark) (enrolledPlace .1)
+markStands DebitRequest = eqb (fixedFor DebitRequest .mark) (debitedPlace .1)
+markStands DebitResult = eqb (fixedFor DebitResult .mark) (debitedPlace .1)
 
--- a result's mark begins the item of its result
-abbrev pub markStands : PairKind → Bool
-markStands Enrolment = eqb (markStart Enrolment) (enrolledPlace .1)
-markStands Debit = eqb (markStart Debit) (debitedPlace .1)
+-- a body begins where item 4 does and ends with the record; items 6 and 7 are given where the header has them
+unfoldable pub bodyStands : Form → Bool
+bodyStands f = eqb (placeIn (rowsFor f Data) 4 .1) front && eqb (front + fixedFor f .body) (fixedFor f .size)
 
--- all of them, for one kind
-unfoldable pub placesStand : Kind → Bool
-placesStand k =
-    allStand (rowsOf k Header) (headerPlaces k) && (allStand (rowsOf k Data) (dataPlaces k) && (totalsStand (rowsOf k Trailer) (totalsOf k) &&
-    (keyStands k && bodyStands k)))
+abbrev pub givenStand : Form → Bool
+givenStand EnrolmentRequest = eqb (fixedFor EnrolmentRequest .item6) 0 && eqb (fixedFor EnrolmentRequest .item7) 0
+givenStand EnrolmentResult = eqb (fixedFor EnrolmentResult .item6) 0 && eqb (fixedFor EnrolmentResult .item7) 0
+givenStand DebitRequest = eqb (fixedFor DebitRequest .item6) (branchPlace .2) && eqb (fixedFor DebitRequest .item7) (accountPlace .2)
+givenStand DebitResult = eqb (fixedFor DebitResult .item6) (branchPlace .2) && eqb (fixedFor DebitResult .item7) (accountPlace .2)
+
+-- all of them, for one form
+unfoldable pub placesStand : Form → Bool
+placesStand f =
+    allStand (rowsFor f Header) (headerPlaces f) && (allStand (rowsFor f Data) (dataPlaces f) && (totalsStand (rowsFor f Trailer) (totalsFor f) &&
+    (keyStands f && (markStands f && (bodyStands f && givenStand f)))))

@@ -1,8 +1,9 @@
--- The rows of every record of every kind: item, start, length, class, code.
+-- The rows of every record of every form: item, start, length, class, code.
 use mathlib.Core.List.{List, [], _∷_, _++_}
 use Prim.Native.Nat.{ℕ}
 use Rattle.kinds.specs.declared.of_files.Kind.{Kind}
-use Rattle.kinds.specs.declared.of_files.Kind.the-variants.{EB13, EB14, EB21, EB22}
+use Rattle.kinds.specs.declared.of_files.Form.{Form}
+use Rattle.kinds.specs.declared.of_files.Form.the-variants.{EnrolmentRequest, EnrolmentResult, DebitRequest, DebitResult}
 use Rattle.kinds.specs.declared.of_files.Role.{Role}
 use Rattle.kinds.specs.declared.of_files.Role.the-variants.{Header, Data, Trailer}
 use Rattle.tables.specs.declared.rows.Row.{Row}
@@ -98,11 +99,11 @@ enrolmentData result = dataFront ++ (
     row 16 110 10 spaces c0089 ∷
     [])
 
-unfoldable pub eb13Data : List Row
-eb13Data = enrolmentData (row 12 91 5 spaces c0089)
+unfoldable pub enrolmentRequestData : List Row
+enrolmentRequestData = enrolmentData (row 12 91 5 spaces c0089)
 
-unfoldable pub eb14Data : List Row
-eb14Data = enrolmentData (row 12 91 5 Failed c0088)
+unfoldable pub enrolmentResultData : List Row
+enrolmentResultData = enrolmentData (row 12 91 5 Failed c0088)
 
 -- EB21, EB22 data, but for item 8 and what else item 13 asks
 unfoldable pub debitData : Row → List Row → List Row
@@ -123,11 +124,11 @@ debitData result more = dataFront ++ (
     row 15 129 21 spaces c0089 ∷
     []))
 
-unfoldable pub eb21Data : List Row
-eb21Data = debitData (row 8 68 5 spaces c0089) (row 13 116 1 Least c0075 ∷ [])
+unfoldable pub debitRequestData : List Row
+debitRequestData = debitData (row 8 68 5 spaces c0089) (row 13 116 1 Least c0075 ∷ [])
 
-unfoldable pub eb22Data : List Row
-eb22Data = debitData (row 8 68 5 FailedOrPart c0088) []
+unfoldable pub debitResultData : List Row
+debitResultData = debitData (row 8 68 5 FailedOrPart c0088) []
 
 -- trailer, all kinds
 unfoldable pub trailerFront : List Row
@@ -150,14 +151,14 @@ enrolmentTrailer mac = trailerFront ++ (
     mac ∷
     [])
 
-unfoldable pub eb13Trailer : List Row
-eb13Trailer = enrolmentTrailer (row 11 110 10 spaces c0089)
+unfoldable pub enrolmentRequestTrailer : List Row
+enrolmentRequestTrailer = enrolmentTrailer (row 11 110 10 spaces c0089)
 
-unfoldable pub eb14Trailer : List Row
-eb14Trailer = enrolmentTrailer (row 11 110 10 free c0088)
+unfoldable pub enrolmentResultTrailer : List Row
+enrolmentResultTrailer = enrolmentTrailer (row 11 110 10 free c0088)
 
-unfoldable pub eb21Trailer : List Row
-eb21Trailer = trailerFront ++ (
+unfoldable pub debitRequestTrailer : List Row
+debitRequestTrailer = trailerFront ++ (
     row 6 35 8 digits c0088 ∷
     row 7 43 13 digits c0088 ∷
     row 8 56 8 zeros c0090 ∷
@@ -166,8 +167,8 @@ eb21Trailer = trailerFront ++ (
     row 11 140 10 spaces c0089 ∷
     [])
 
-unfoldable pub eb22Trailer : List Row
-eb22Trailer = trailerFront ++ (
+unfoldable pub debitResultTrailer : List Row
+debitResultTrailer = trailerFront ++ (
     row 6 35 8 digits c0088 ∷
     row 7 43 13 digits c0088 ∷
     row 8 56 8 digits c0088 ∷
@@ -180,17 +181,20 @@ eb22Trailer = trailerFront ++ (
     row 15 140 10 free c0088 ∷
     [])
 
--- the rows of each record of each kind
+-- the rows of each record of each form
+abbrev pub rowsFor : Form → Role → List Row
+rowsFor EnrolmentRequest Header = enrolmentHeader
+rowsFor EnrolmentRequest Data = enrolmentRequestData
+rowsFor EnrolmentRequest Trailer = enrolmentRequestTrailer
+rowsFor EnrolmentResult Header = enrolmentHeader
+rowsFor EnrolmentResult Data = enrolmentResultData
+rowsFor EnrolmentResult Trailer = enrolmentResultTrailer
+rowsFor DebitRequest Header = debitHeader
+rowsFor DebitRequest Data = debitRequestData
+rowsFor DebitRequest Trailer = debitRequestTrailer
+rowsFor DebitResult Header = debitHeader
+rowsFor DebitResult Data = debitResultData
+rowsFor DebitResult Trailer = debitResultTrailer
+
 abbrev pub rowsOf : Kind → Role → List Row
-rowsOf EB13 Header = enrolmentHeader
-rowsOf EB13 Data = eb13Data
-rowsOf EB13 Trailer = eb13Trailer
-rowsOf EB14 Header = enrolmentHeader
-rowsOf EB14 Data = eb14Data
-rowsOf EB14 Trailer = eb14Trailer
-rowsOf EB21 Header = debitHeader
-rowsOf EB21 Data = eb21Data
-rowsOf EB21 Trailer = eb21Trailer
-rowsOf EB22 Header = debitHeader
-rowsOf EB22 Data = eb22Data
-rowsOf EB22 Trailer = eb22Trailer
+rowsOf k role = rowsFor (k .form) role

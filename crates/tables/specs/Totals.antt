@@ -2,7 +2,8 @@
 use Prim.Native.Nat.{ℕ}
 use mathlib.Core.List.{List, [], _∷_}
 use Rattle.kinds.specs.declared.of_files.Kind.{Kind}
-use Rattle.kinds.specs.declared.of_files.Kind.the-variants.{EB13, EB14, EB21, EB22}
+use Rattle.kinds.specs.declared.of_files.Form.{Form}
+use Rattle.kinds.specs.declared.of_files.Form.the-variants.{EnrolmentRequest, EnrolmentResult, DebitRequest, DebitResult}
 use Rattle.tables.specs.declared.totals.Total.{Total}
 use Rattle.tables.specs.declared.totals.Quantity.{Quantity}
 use Rattle.tables.specs.declared.totals.Quantity.the-variants.{Records, OfKind, Amounts, Marked, AmountsMarked}
@@ -13,7 +14,7 @@ total item start size quantity = record { 0 = item; 1 = start; 2 = size; 3 = qua
 abbrev pub noTotal : Total
 noTotal = total 0 0 0 Records
 
--- EB13, EB14: n; records of kinds "1", "3", "7"
+-- enrolment: n; records of kinds "1", "3", "7"
 unfoldable pub enrolmentTotals : List Total
 enrolmentTotals =
     total 5 27 8 Records ∷
@@ -22,17 +23,17 @@ enrolmentTotals =
     total 9 59 8 (OfKind 0x37) ∷
     []
 
--- EB21: n twice; the sum of amounts
-unfoldable pub eb21Totals : List Total
-eb21Totals =
+-- debit request: n twice; the sum of amounts
+unfoldable pub debitRequestTotals : List Total
+debitRequestTotals =
     total 5 27 8 Records ∷
     total 6 35 8 Records ∷
     total 7 43 13 Amounts ∷
     []
 
--- EB22: n; count and sum of "N" records, count and sum of "P" records
-unfoldable pub eb22Totals : List Total
-eb22Totals =
+-- debit result: n; count and sum of "N" records, count and sum of "P" records
+unfoldable pub debitResultTotals : List Total
+debitResultTotals =
     total 5 27 8 Records ∷
     total 6 35 8 (Marked 0x4E) ∷
     total 7 43 13 (AmountsMarked 0x4E) ∷
@@ -40,8 +41,11 @@ eb22Totals =
     total 9 64 13 (AmountsMarked 0x50) ∷
     []
 
+abbrev pub totalsFor : Form → List Total
+totalsFor EnrolmentRequest = enrolmentTotals
+totalsFor EnrolmentResult = enrolmentTotals
+totalsFor DebitRequest = debitRequestTotals
+totalsFor DebitResult = debitResultTotals
+
 abbrev pub totalsOf : Kind → List Total
-totalsOf EB13 = enrolmentTotals
-totalsOf EB14 = enrolmentTotals
-totalsOf EB21 = eb21Totals
-totalsOf EB22 = eb22Totals
+totalsOf k = totalsFor (k .form)

@@ -3,6 +3,7 @@ ghost use mathlib.Core.Path.{_≡_};
 ghost use Prim.Native.Nat.{_<_};
 ghost use lib.ListN.{length, getD};
 ghost use Rattle.tables.specs.Copied.{noItem, enrolmentCopied, debitCopied, copiedOf};
+use kinds::of_files::Form;
 use kinds::of_files::Kind;
 
 // Item, start, length.
@@ -56,11 +57,12 @@ fn debit_copied(i: usize) -> Copied
 pub fn copied_count(kind: Kind) -> usize
     ensures { λ r. ⌜ r ≡ length (copiedOf kind) ⌝ }
 {
-    match kind {
-        Kind::EB13 => ENROLMENT_COPIED.len(),
-        Kind::EB14 => ENROLMENT_COPIED.len(),
-        Kind::EB21 => DEBIT_COPIED.len(),
-        Kind::EB22 => DEBIT_COPIED.len(),
+    let form = kind.form;
+    match form {
+        Form::EnrolmentRequest => ENROLMENT_COPIED.len(),
+        Form::EnrolmentResult => ENROLMENT_COPIED.len(),
+        Form::DebitRequest => DEBIT_COPIED.len(),
+        Form::DebitResult => DEBIT_COPIED.len(),
     }
 }
 
@@ -69,10 +71,11 @@ pub fn copied_at(kind: Kind, i: usize) -> Copied
     requires { ⌜ i < length (copiedOf kind) ⌝ }
     ensures { λ r. ⌜ r ≡ getD (copiedOf kind) i noItem ⌝ }
 {
-    match kind {
-        Kind::EB13 => enrolment_copied(i),
-        Kind::EB14 => enrolment_copied(i),
-        Kind::EB21 => debit_copied(i),
-        Kind::EB22 => debit_copied(i),
+    let form = kind.form;
+    match form {
+        Form::EnrolmentRequest => enrolment_copied(i),
+        Form::EnrolmentResult => enrolment_copied(i),
+        Form::DebitRequest => debit_copied(i),
+        Form::DebitResult => debit_copied(i),
     }
 }

@@ -2,7 +2,8 @@
 ghost use mathlib.Core.Path.{_≡_};
 ghost use Prim.Native.Nat.{_<_};
 ghost use lib.ListN.{length, getD};
-ghost use Rattle.tables.specs.Totals.{noTotal, enrolmentTotals, eb21Totals, eb22Totals, totalsOf};
+ghost use Rattle.tables.specs.Totals.{noTotal, enrolmentTotals, debitRequestTotals, debitResultTotals, totalsOf};
+use kinds::of_files::Form;
 use kinds::of_files::Kind;
 
 // What the data records give.
@@ -29,13 +30,13 @@ const ENROLMENT_TOTALS: [Total; 4] = [
     Total(9, 59, 8, Quantity::OfKind(b'7')),
 ];
 
-const EB21_TOTALS: [Total; 3] = [
+const DEBIT_REQUEST_TOTALS: [Total; 3] = [
     Total(5, 27, 8, Quantity::Records),
     Total(6, 35, 8, Quantity::Records),
     Total(7, 43, 13, Quantity::Amounts),
 ];
 
-const EB22_TOTALS: [Total; 5] = [
+const DEBIT_RESULT_TOTALS: [Total; 5] = [
     Total(5, 27, 8, Quantity::Records),
     Total(6, 35, 8, Quantity::Marked(b'N')),
     Total(7, 43, 13, Quantity::AmountsMarked(b'N')),
@@ -50,29 +51,30 @@ fn enrolment_total(i: usize) -> Total
     ENROLMENT_TOTALS[i]
 }
 
-fn eb21_total(i: usize) -> Total
+fn debit_request_total(i: usize) -> Total
     requires { ⌜ i < 3 ⌝ }
-    ensures { λ r. ⌜ r ≡ getD eb21Totals i noTotal ⌝ }
+    ensures { λ r. ⌜ r ≡ getD debitRequestTotals i noTotal ⌝ }
 {
-    EB21_TOTALS[i]
+    DEBIT_REQUEST_TOTALS[i]
 }
 
-fn eb22_total(i: usize) -> Total
+fn debit_result_total(i: usize) -> Total
     requires { ⌜ i < 5 ⌝ }
-    ensures { λ r. ⌜ r ≡ getD eb22Totals i noTotal ⌝ }
+    ensures { λ r. ⌜ r ≡ getD debitResultTotals i noTotal ⌝ }
 {
-    EB22_TOTALS[i]
+    DEBIT_RESULT_TOTALS[i]
 }
 
 // How many totals the trailer has.
 pub fn total_count(kind: Kind) -> usize
     ensures { λ r. ⌜ r ≡ length (totalsOf kind) ⌝ }
 {
-    match kind {
-        Kind::EB13 => ENROLMENT_TOTALS.len(),
-        Kind::EB14 => ENROLMENT_TOTALS.len(),
-        Kind::EB21 => EB21_TOTALS.len(),
-        Kind::EB22 => EB22_TOTALS.len(),
+    let form = kind.form;
+    match form {
+        Form::EnrolmentRequest => ENROLMENT_TOTALS.len(),
+        Form::EnrolmentResult => ENROLMENT_TOTALS.len(),
+        Form::DebitRequest => DEBIT_REQUEST_TOTALS.len(),
+        Form::DebitResult => DEBIT_RESULT_TOTALS.len(),
     }
 }
 
@@ -81,10 +83,11 @@ pub fn total_at(kind: Kind, i: usize) -> Total
     requires { ⌜ i < length (totalsOf kind) ⌝ }
     ensures { λ r. ⌜ r ≡ getD (totalsOf kind) i noTotal ⌝ }
 {
-    match kind {
-        Kind::EB13 => enrolment_total(i),
-        Kind::EB14 => enrolment_total(i),
-        Kind::EB21 => eb21_total(i),
-        Kind::EB22 => eb22_total(i),
+    let form = kind.form;
+    match form {
+        Form::EnrolmentRequest => enrolment_total(i),
+        Form::EnrolmentResult => enrolment_total(i),
+        Form::DebitRequest => debit_request_total(i),
+        Form::DebitResult => debit_result_total(i),
     }
 }

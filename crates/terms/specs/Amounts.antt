@@ -4,20 +4,22 @@ use mathlib.Core.Bool.{Bool, cond, _&&_}
 use mathlib.Core.List.{List, [], _∷_}
 use lib.Dec.{leb, ltb, eqb}
 use lib.ListN.{getD}
-use Rattle.kinds.specs.Kinds.{fixedOf}
 use Rattle.answers.specs.declared.told.Answer.{Answer}
 use Rattle.answers.specs.Answers.{accepted, refusedAt}
 use Rattle.layout.specs.Items.{amountOf, markOf, typeOf}
 use Rattle.kinds.specs.declared.of_pairs.PairKind.{PairKind}
-use Rattle.kinds.specs.declared.of_pairs.PairKind.the-variants.{Enrolment, Debit}
-use Rattle.kinds.specs.Pairs.{requestKind}
+use Rattle.kinds.specs.declared.of_pairs.Family.{Family}
+use Rattle.kinds.specs.declared.of_pairs.Family.the-variants.{Enrolment, Debit}
 use Rattle.tables.specs.declared.totals.Quantity.{Quantity}
 use Rattle.tables.specs.declared.totals.Quantity.the-variants.{Records, Amounts}
 
 -- what a request asks, and what its result says was not taken: 1, or won
+abbrev pub asksIn : Family → Quantity
+asksIn Enrolment = Records
+asksIn Debit = Amounts
+
 abbrev pub asks : PairKind → Quantity
-asks Enrolment = Records
-asks Debit = Amounts
+asks p = asksIn (p .family)
 
 -- the least that a part payment may take, for types "1" to "6"; type "1" takes none
 unfoldable pub bases : List ℕ
@@ -42,6 +44,10 @@ debitTells least rec request result =
     (cond (possible least (typeOf request) (markOf result) (amountOf request) (amountOf result)) accepted (refusedAt 14 rec 6 0x30303030))
 
 -- an enrolment has no amounts
+abbrev pub amountsIn : Family → ℕ → ℕ → List ℕ → List ℕ → Answer
+amountsIn Enrolment least rec request result = accepted
+amountsIn Debit least rec request result = debitTells least rec request result
+
+-- the least amount is that of the request's kind
 abbrev pub amountsTell : PairKind → ℕ → List ℕ → List ℕ → Answer
-amountsTell Enrolment rec request result = accepted
-amountsTell Debit rec request result = debitTells (fixedOf (requestKind Debit) .least) rec request result
+amountsTell p rec request result = amountsIn (p .family) (p .request .least) rec request result

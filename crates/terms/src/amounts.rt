@@ -4,7 +4,7 @@ ghost use Prim.Native.Nat.{_≤_, _<_};
 ghost use lib.ListN.{length};
 ghost use Rattle.terms.specs.Amounts.{baseOf, possible, partOfOne, debitTells, amountsTell};
 use answers::told::Answer;
-use kinds::of_files::Fixed;
+use kinds::of_pairs::Family;
 use kinds::of_pairs::PairKind;
 use layout::items;
 use text::parts;
@@ -76,8 +76,9 @@ pub(crate) fn amounts_tell(pair: PairKind, rec: u64, request: &[u8], result: &[u
     requires { ⌜ 55 ≤ length (now result) ⌝ }
     ensures { λ r. ⌜ r ≡ amountsTell pair rec (now (request .entry)) (now (result .entry)) ⌝ }
 {
-    match pair {
-        PairKind::Enrolment => Answer::accepted(),
-        PairKind::Debit => debit_tells(Fixed::LEAST, rec, request, result),
+    let family = pair.family;
+    match family {
+        Family::Enrolment => Answer::accepted(),
+        Family::Debit => debit_tells(pair.request.least, rec, request, result),
     }
 }

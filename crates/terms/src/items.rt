@@ -7,6 +7,7 @@ ghost use Rattle.tables.specs.Copied.{noItem};
 ghost use Rattle.kinds.specs.Pairs.{requestKind, agreed};
 ghost use Rattle.terms.specs.Items.{headerItems, comparedOf, agrees, itemsTell};
 use answers::told::Answer;
+use kinds::of_files::Fixed;
 use kinds::of_pairs;
 use kinds::of_pairs::PairKind;
 use tables::copied;
@@ -30,10 +31,7 @@ const HEADER_ITEMS: [Copied; 4] = [
 fn agreed(pair: PairKind) -> usize
     ensures { λ r. ⌜ r ≡ agreed pair ⌝ }
 {
-    match pair {
-        PairKind::Enrolment => 2,
-        PairKind::Debit => 4,
-    }
+    Fixed::of(of_pairs::request_kind(pair)).agreed
 }
 
 fn header_item(i: usize) -> Copied

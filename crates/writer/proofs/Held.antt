@@ -93,11 +93,11 @@ all-every P p f (r ∷ rows) t = f r (and-left (p r) (every p rows) t) also all-
 module _ (k : Kind) (rec header : List ℕ) (n : ℕ) (fill : Row → ℕ → ℕ) (top : ℕ) where
   -- where a row holds, what it would write at its places below `top` is what stands there
   abbrev pub Back : Row → Type 0
-  Back r = r .1 + r .2 ≤ length rec → holds k rec header n r ≡ true → (j : ℕ) → r .1 ≤ j → j < r .1 + r .2 → j < top → fill r j ≡ getD rec j 0
+  Back r = r .1 + r .2 ≤ length rec → holds (k .own) rec header n r ≡ true → (j : ℕ) → r .1 ≤ j → j < r .1 + r .2 → j < top → fill r j ≡ getD rec j 0
 
   -- so at every place, if every row is so and holds
   pub back-at :
-      (role : Role) → length rec ≡ fixedOf k .size → All Back (rowsOf k role) → All-hold k (rowsOf k role) rec header n →
+      (role : Role) → length rec ≡ fixedOf k .size → All Back (rowsOf k role) → All-hold (k .own) (rowsOf k role) rec header n →
       (j : ℕ) → j < fixedOf k .size → j < top → fill (rowOver (rowsOf k role) j) j ≡ getD rec j 0
   back-at role long all hold j h t =
       let i = row-over k role j h .0 in

@@ -10,4 +10,9 @@ pub mod Again
 pub mod Rewritten
 pub mod NoTwo
 pub mod Totals
-pub mod Sums
+pub mod Six
+pub mod Told
+pub mod Built
+pub mod Frame
+pub mod Summed
+pub mod Decided

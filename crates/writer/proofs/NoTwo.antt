@@ -4,6 +4,8 @@ use Prim.Native.Nat.{ℕ}
 use mathlib.Core.List.{List}
 use mathlib.Core.Path.{_≡_}
 use Rattle.kinds.specs.declared.of_files.Kind.{Kind}
+use Rattle.kinds.specs.declared.of_files.Named.the-variants.{Is}
+use Rattle.kinds.specs.Kinds.{kindOf}
 use Rattle.reader.specs.Meets.{Meets}
 use Rattle.reader.proofs.Exact.{read-exact}
 use Rattle.reader.proofs.OneKind.{one-kind}
@@ -30,9 +32,10 @@ module _ (h h' : Head) (bodies bodies' : List ℕ) (room room' : ℕ) where
       let parts = no-two l h h' bodies bodies' room room' (rw same at a) b (rw same at e) in
       record { kind = same; head = parts .0; body = parts .1 }
 
-  -- *No two*, of any kinds
+  -- *No two*, of any kinds that numbers name
   pub no-two-kinds :
-      (k l : Kind) → writeAs k h bodies room .number ≡ 0 → writeAs l h' bodies' room' .number ≡ 0 →
+      (m n : ℕ) (k l : Kind) → kindOf m ≡ Is k → kindOf n ≡ Is l →
+      writeAs k h bodies room .number ≡ 0 → writeAs l h' bodies' room' .number ≡ 0 →
       fileOf k h bodies ≡ fileOf l h' bodies' → SameGiven k l h h' bodies bodies'
-  no-two-kinds k l a b e =
-      same-given k l (one-kind k l (fileOf l h' bodies') (rw e at (written-meets k h bodies room a)) (written-meets l h' bodies' room' b)) a b e
+  no-two-kinds m n k l p q a b e =
+      same-given k l (one-kind m n k l p q (fileOf l h' bodies') (rw e at (written-meets k h bodies room a)) (written-meets l h' bodies' room' b)) a b e

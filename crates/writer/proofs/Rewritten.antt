@@ -1,6 +1,7 @@
 -- Read, then written: a request file that meets every rule, taken apart, is written again byte by byte.
 -- Assumes nothing.
 use Prim.Native.Nat.{ℕ, _+_, _-_, _*_, _≤_, _<_}
+use mathlib.Core.Bool.{true}
 use mathlib.Core.List.{List, _++_}
 use mathlib.Core.Path.{_≡_, sym, _∙_, ap}
 use native.Mathlib.Nat.{le-of-eq, mul-div-cancel}
@@ -36,7 +37,8 @@ use Rattle.reader.proofs.Exact.{read-exact, accepted-meets}
 use Rattle.reader.proofs.Accepted.{read-named}
 use Rattle.making.specs.Records.{headerBuilt, bodyCount, dataBuilt, builtWorth, builtQuantity, builtTotal, builtTotals, trailerBuilt}
 use Rattle.making.specs.Files.{frontOf, fileOf}
-use Rattle.writer.specs.Writing.{requestOf, writeAs, afterAs, writeOf, roomAfter}
+use Rattle.writer.specs.Writing.{writeAs, afterAs, writeOf, roomAfter}
+use Rattle.kinds.specs.Kinds.{requestOf}
 use Rattle.writer.specs.Apart.{headIn, bodyAt, bodiesIn}
 use Rattle.writer.specs.Says.{Bytes}
 use Rattle.making.proofs.Rows.{totals-few}
@@ -44,7 +46,7 @@ use Rattle.laws.proofs.Tabs.{tab-at}
 use Rattle.making.proofs.Sizes.{body-size}
 use Rattle.writer.proofs.Sizes.{item6-inside, item7-inside}
 use Rattle.writer.proofs.Taken.{Fits, each-fits, bodies-sized, bodies-length}
-use Rattle.writer.proofs.Requests.{request-kind, request-name}
+use Rattle.writer.proofs.Requests.{request-kind, request-written}
 use Rattle.writer.proofs.Again.{Said, header-again, data-again, trailer-again}
 
 body-some : (k : Kind) → 0 < fixedOf k .body
@@ -101,18 +103,18 @@ module _ (k : Kind) (s : List ℕ) (m : Meets k s) where
       long = record-length k s m 0 (omega (arith, count))
 
   -- the rows of each record, by its role
-  header-holds : All-hold k (rowsOf k Header) H H 0
+  header-holds : All-hold (k .own) (rowsOf k Header) H H 0
   unfolding roleOf
   header-holds = m .rows 0 (omega (arith, count))
 
-  data-holds : (i : ℕ) → i < n → All-hold k (rowsOf k Data) (recordOf k s (i + 1)) H (i + 1)
+  data-holds : (i : ℕ) → i < n → All-hold (k .own) (rowsOf k Data) (recordOf k s (i + 1)) H (i + 1)
   unfolding roleOf
   data-holds i l = rw role at (m .rows (i + 1) (omega (arith, count)))
     where
       role : roleOf (countOf k s) (i + 1) ≡ Data
       role = rw (ne-eqb (i + 1) 0 (λ e. omega arith), ne-eqb (i + 1 + 1) (countOf k s) (λ e. omega (arith, count)))
 
-  trailer-holds : All-hold k (rowsOf k Trailer) (trailerOf k s) H (countOf k s - 1)
+  trailer-holds : All-hold (k .own) (rowsOf k Trailer) (trailerOf k s) H (countOf k s - 1)
   unfolding roleOf
   trailer-holds = rw role at (m .rows (countOf k s - 1) (omega (arith, count)))
     where
@@ -151,12 +153,12 @@ module _ (k : Kind) (s : List ℕ) (m : Meets k s) where
         quantity-rebuilt (getD (totalsOf k) t noTotal .3),
       ) (m .totals t l)
 
-  trailer-rebuilt : requestOf (fixedOf k .name) ≡ Is k → trailerBuilt k H (builtTotals k H (bodiesIn k s)) ≡ trailerOf k s
+  trailer-rebuilt : fixedOf k .written ≡ true → trailerBuilt k H (builtTotals k H (bodiesIn k s)) ≡ trailerOf k s
   trailer-rebuilt e =
       trailer-again k e H (trailerOf k s) (builtTotals k H (bodiesIn k s)) (countOf k s - 1) (record-length k s m (countOf k s - 1) (omega (arith, count))) trailer-holds totals-said
 
   -- *Taken apart, written*: a request file that meets every rule is the file that is written from its parts
-  pub apart-written : requestOf (fixedOf k .name) ≡ Is k → Bytes s → fileOf k (headIn k s) (bodiesIn k s) ≡ s
+  pub apart-written : fixedOf k .written ≡ true → Bytes s → fileOf k (headIn k s) (bodiesIn k s) ≡ s
   unfolding fileOf frontOf
   apart-written e bytes =
       rw (
@@ -167,7 +169,7 @@ module _ (k : Kind) (s : List ℕ) (m : Meets k s) where
       ) (sym (file-records k s (m .lengths)))
 
   -- so the writer accepts them where there is room, and leaves the same file
-  pub apart-accepted : requestOf (fixedOf k .name) ≡ Is k → Bytes s → (room : ℕ) → length s ≤ room → writeAs k (headIn k s) (bodiesIn k s) room ≡ accepted
+  pub apart-accepted : fixedOf k .written ≡ true → Bytes s → (room : ℕ) → length s ≤ room → writeAs k (headIn k s) (bodiesIn k s) room ≡ accepted
   unfolding writeAs
   apart-accepted e bytes room h =
       rw (
@@ -180,7 +182,7 @@ module _ (k : Kind) (s : List ℕ) (m : Meets k s) where
         apart-written e bytes,
       ) (read-exact k s .1 m)
 
-  pub apart-room : requestOf (fixedOf k .name) ≡ Is k → Bytes s → (room : List ℕ) → length s ≤ length room → afterAs k (headIn k s) (bodiesIn k s) room ≡ s ++ drop (length s) room
+  pub apart-room : fixedOf k .written ≡ true → Bytes s → (room : List ℕ) → length s ≤ length room → afterAs k (headIn k s) (bodiesIn k s) room ≡ s ++ drop (length s) room
   unfolding afterAs
   apart-room e bytes room h = rw (apart-accepted e bytes (length room) h, apart-written e bytes)
 
@@ -192,8 +194,8 @@ unfolding writeOf roomAfter
 read-written kind k e s room z bytes h =
     (rw e (apart-accepted k s m name bytes (length room) h), rw e (apart-room k s m name bytes room h))
   where
-    name : requestOf (fixedOf k .name) ≡ Is k
-    name = request-name kind k e
+    name : fixedOf k .written ≡ true
+    name = request-written kind k e
 
     m : Meets k s
     m = accepted-meets k s (rw (read-named kind s k (request-kind kind k e)) at z)

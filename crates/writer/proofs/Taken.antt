@@ -18,10 +18,12 @@ use Rattle.laws.proofs.Bools.{and-left, and-right}
 use Rattle.laws.proofs.Joins.{Sized, sized-length, joined-length, joined-part, joined-same, parts-joined, size-below}
 use Rattle.laws.proofs.Parts.{part-length, part-at}
 use Rattle.kinds.specs.declared.of_files.Kind.{Kind}
-use Rattle.kinds.specs.declared.of_files.Kind.the-variants.{EB13, EB14, EB21, EB22}
+use Rattle.kinds.specs.declared.of_files.Form.{Form}
+use Rattle.kinds.specs.declared.of_files.Form.the-variants.{EnrolmentRequest, EnrolmentResult, DebitRequest, DebitResult}
+use Rattle.kinds.specs.declared.of_files.Own.{Own}
 use Rattle.kinds.specs.declared.of_files.Role.the-variants.{Header}
 use Rattle.tables.specs.declared.rows.Row.{Row}
-use Rattle.kinds.specs.Kinds.{fixedOf}
+use Rattle.kinds.specs.Kinds.{fixedOf, fixedFor, kind}
 use Rattle.tables.specs.Rows.{blank}
 use Rattle.tables.specs.Tables.{headerFront, enrolmentHeader, debitHeader, rowsOf}
 use Rattle.records.specs.Records.{recordAt, recordOf, countOf, dataOf}
@@ -29,7 +31,7 @@ use Rattle.records.proofs.Places.{record-inside, size-pos}
 use Rattle.making.specs.Bytes.{fillBy}
 use Rattle.making.specs.Records.{Head, givenItem, headerFill, headerByte, headerBuilt, bodyCount, dataByte, dataBuilt, builtTotals, trailerBuilt}
 use Rattle.making.specs.Files.{frontOf, fileOf}
-use Rattle.writer.specs.Writing.{partsFit, size6, size7}
+use Rattle.writer.specs.Writing.{partsFit}
 use Rattle.writer.specs.Apart.{headFrom, headIn, bodyAt, bodiesIn}
 use Rattle.writer.specs.Says.{fitting}
 use Rattle.making.proofs.Lengths.{header-length, data-length}
@@ -78,36 +80,48 @@ module _ (k : Kind) (h : Head) (i : ℕ) where
 -- items 3 and 5 of every header, items 6 and 7 of a debit's
 code-built : (k : Kind) (h : Head) → length (h .code) ≡ 10 → part 9 10 (headerBuilt k h) ≡ h .code
 unfolding starts endsPast none least further givenItem headerFront enrolmentHeader debitHeader
-code-built EB13 h e = given-item EB13 h 2 refl (λ g l. refl) (omega arith) e
-code-built EB14 h e = given-item EB14 h 2 refl (λ g l. refl) (omega arith) e
-code-built EB21 h e = given-item EB21 h 2 refl (λ g l. refl) (omega arith) e
-code-built EB22 h e = given-item EB22 h 2 refl (λ g l. refl) (omega arith) e
+code-built k h e = code-in (k .form) (k .own)
+  where
+    code-in : (f : Form) (o : Own) → part 9 10 (headerBuilt (kind f o) h) ≡ h .code
+    code-in EnrolmentRequest o = given-item (kind EnrolmentRequest o) h 2 refl (λ g l. refl) (omega arith) e
+    code-in EnrolmentResult o = given-item (kind EnrolmentResult o) h 2 refl (λ g l. refl) (omega arith) e
+    code-in DebitRequest o = given-item (kind DebitRequest o) h 2 refl (λ g l. refl) (omega arith) e
+    code-in DebitResult o = given-item (kind DebitResult o) h 2 refl (λ g l. refl) (omega arith) e
 
 date-built : (k : Kind) (h : Head) → length (h .date) ≡ 6 → part 27 6 (headerBuilt k h) ≡ h .date
 unfolding starts endsPast none least further givenItem headerFront enrolmentHeader debitHeader
-date-built EB13 h e = given-item EB13 h 5 refl (λ g l. refl) (omega arith) e
-date-built EB14 h e = given-item EB14 h 5 refl (λ g l. refl) (omega arith) e
-date-built EB21 h e = given-item EB21 h 5 refl (λ g l. refl) (omega arith) e
-date-built EB22 h e = given-item EB22 h 5 refl (λ g l. refl) (omega arith) e
+date-built k h e = date-in (k .form) (k .own)
+  where
+    date-in : (f : Form) (o : Own) → part 27 6 (headerBuilt (kind f o) h) ≡ h .date
+    date-in EnrolmentRequest o = given-item (kind EnrolmentRequest o) h 5 refl (λ g l. refl) (omega arith) e
+    date-in EnrolmentResult o = given-item (kind EnrolmentResult o) h 5 refl (λ g l. refl) (omega arith) e
+    date-in DebitRequest o = given-item (kind DebitRequest o) h 5 refl (λ g l. refl) (omega arith) e
+    date-in DebitResult o = given-item (kind DebitResult o) h 5 refl (λ g l. refl) (omega arith) e
 
 nothing : (start : ℕ) (x s : List ℕ) → length x ≡ 0 → part start 0 s ≡ x
 unfolding part
 nothing start [] s e = refl
 nothing start (a ∷ x) s e = absurd (omega arith)
 
-item6-built : (k : Kind) (h : Head) → length (h .item6) ≡ size6 k → part 33 (size6 k) (headerBuilt k h) ≡ h .item6
+item6-in : (f : Form) (o : Own) (h : Head) → length (h .item6) ≡ fixedFor f .item6 → part 33 (fixedFor f .item6) (headerBuilt (kind f o) h) ≡ h .item6
 unfolding starts endsPast none least further givenItem headerFront enrolmentHeader debitHeader
-item6-built EB13 h e = nothing 33 (h .item6) (headerBuilt EB13 h) e
-item6-built EB14 h e = nothing 33 (h .item6) (headerBuilt EB14 h) e
-item6-built EB21 h e = given-item EB21 h 8 refl (λ g l. refl) (omega arith) e
-item6-built EB22 h e = given-item EB22 h 8 refl (λ g l. refl) (omega arith) e
+item6-in EnrolmentRequest o h e = nothing 33 (h .item6) (headerBuilt (kind EnrolmentRequest o) h) e
+item6-in EnrolmentResult o h e = nothing 33 (h .item6) (headerBuilt (kind EnrolmentResult o) h) e
+item6-in DebitRequest o h e = given-item (kind DebitRequest o) h 8 refl (λ g l. refl) (omega arith) e
+item6-in DebitResult o h e = given-item (kind DebitResult o) h 8 refl (λ g l. refl) (omega arith) e
 
-item7-built : (k : Kind) (h : Head) → length (h .item7) ≡ size7 k → part 40 (size7 k) (headerBuilt k h) ≡ h .item7
+item6-built : (k : Kind) (h : Head) → length (h .item6) ≡ fixedOf k .item6 → part 33 (fixedOf k .item6) (headerBuilt k h) ≡ h .item6
+item6-built k h e = item6-in (k .form) (k .own) h e
+
+item7-in : (f : Form) (o : Own) (h : Head) → length (h .item7) ≡ fixedFor f .item7 → part 40 (fixedFor f .item7) (headerBuilt (kind f o) h) ≡ h .item7
 unfolding starts endsPast none least further givenItem headerFront enrolmentHeader debitHeader
-item7-built EB13 h e = nothing 40 (h .item7) (headerBuilt EB13 h) e
-item7-built EB14 h e = nothing 40 (h .item7) (headerBuilt EB14 h) e
-item7-built EB21 h e = given-item EB21 h 9 refl (λ g l. refl) (omega arith) e
-item7-built EB22 h e = given-item EB22 h 9 refl (λ g l. refl) (omega arith) e
+item7-in EnrolmentRequest o h e = nothing 40 (h .item7) (headerBuilt (kind EnrolmentRequest o) h) e
+item7-in EnrolmentResult o h e = nothing 40 (h .item7) (headerBuilt (kind EnrolmentResult o) h) e
+item7-in DebitRequest o h e = given-item (kind DebitRequest o) h 9 refl (λ g l. refl) (omega arith) e
+item7-in DebitResult o h e = given-item (kind DebitResult o) h 9 refl (λ g l. refl) (omega arith) e
+
+item7-built : (k : Kind) (h : Head) → length (h .item7) ≡ fixedOf k .item7 → part 40 (fixedOf k .item7) (headerBuilt k h) ≡ h .item7
+item7-built k h e = item7-in (k .form) (k .own) h e
 
 -- the records of a written file are those that were built
 module _ (k : Kind) (h : Head) (bodies : List ℕ) where
@@ -178,8 +192,8 @@ body-built k header bodies i l = ext-getD 0 (part 19 b rec) (part (i * b) b bodi
 pub record Fits (k : Kind) (h : Head) (bodies : List ℕ) : Type 0 where
   pub date : length (h .date) ≡ 6
   pub code : length (h .code) ≡ 10
-  pub item6 : length (h .item6) ≡ size6 k
-  pub item7 : length (h .item7) ≡ size7 k
+  pub item6 : length (h .item6) ≡ fixedOf k .item6
+  pub item7 : length (h .item7) ≡ fixedOf k .item7
   pub whole : length bodies ≡ bodyCount k bodies * fixedOf k .body
 
 pub fits-each : (k : Kind) (h : Head) (bodies : List ℕ) → fitting k h bodies ≡ true → Fits k h bodies
@@ -187,8 +201,8 @@ unfolding partsFit bodyCount
 fits-each k h bodies t =
     let a = eqb (length (h .date)) 6 in
     let b = eqb (length (h .code)) 10 in
-    let c = eqb (length (h .item6)) (size6 k) in
-    let d = eqb (length (h .item7)) (size7 k) in
+    let c = eqb (length (h .item6)) (fixedOf k .item6) in
+    let d = eqb (length (h .item7)) (fixedOf k .item7) in
     let e = eqb (length bodies % fixedOf k .body) 0 in
     let t₁ = and-right a (b && (c && (d && e))) t in
     let t₂ = and-right b (c && (d && e)) t₁ in
@@ -196,8 +210,8 @@ fits-each k h bodies t =
     record {
       date = eqb-true _ 6 (and-left a _ t);
       code = eqb-true _ 10 (and-left b _ t₁);
-      item6 = eqb-true _ (size6 k) (and-left c _ t₂);
-      item7 = eqb-true _ (size7 k) (and-left d e t₃);
+      item6 = eqb-true _ (fixedOf k .item6) (and-left c _ t₂);
+      item7 = eqb-true _ (fixedOf k .item7) (and-left d e t₃);
       whole = omega (arith, div-add-mod' (length bodies) (fixedOf k .body), eqb-true (length bodies % fixedOf k .body) 0 (and-right d e t₃));
     }
 
@@ -207,8 +221,8 @@ each-fits k h bodies f =
     rw (
       eq-eqb (length (h .date)) 6 (f .date),
       eq-eqb (length (h .code)) 10 (f .code),
-      eq-eqb (length (h .item6)) (size6 k) (f .item6),
-      eq-eqb (length (h .item7)) (size7 k) (f .item7),
+      eq-eqb (length (h .item6)) (fixedOf k .item6) (f .item6),
+      eq-eqb (length (h .item7)) (fixedOf k .item7) (f .item7),
       f .whole,
       mul-mod-left (bodyCount k bodies) (fixedOf k .body),
     )

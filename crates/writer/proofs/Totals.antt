@@ -8,15 +8,15 @@ use mathlib.Core.Logic.{⊎-elim}
 use native.Mathlib.Nat.{suc-mul, add-comm, add-zero}
 use native.Mathlib.Numerals.{add-one}
 use native.Mathlib.Omega.{arith}
-use borrow.Author.Tests.{eq-eqb, ne-eqb, lt-ltb, le-leb, ltb-true, ltb-false}
-use lib.Dec.{ltb}
+use borrow.Author.Tests.{eq-eqb, ne-eqb, lt-ltb, le-leb, ltb-true, ltb-false, leb-true}
+use lib.Dec.{leb, ltb}
 use lib.ListN.{length, getD, length-append}
 use lib.Seq.{ext-getD, take-all}
 use Rattle.laws.specs.Joined.{joined}
 use Rattle.laws.specs.Least.{further, least, none}
 use Rattle.laws.specs.Part.{part}
 use Rattle.laws.specs.Sum.{sum}
-use Rattle.laws.proofs.Bools.{either}
+use Rattle.laws.proofs.Bools.{either, clash}
 use Rattle.laws.proofs.Joins.{joined-length}
 use Rattle.laws.proofs.Parts.{part-length, part-at}
 use Rattle.laws.proofs.Sums.{sum-same}
@@ -24,17 +24,18 @@ use Rattle.laws.proofs.Tabs.{tab-at}
 use Rattle.numbers.specs.Numbers.{valueOf, says, digitsOf}
 use Rattle.numbers.proofs.Values.{digits-length, digits-are, value-digits, value-size}
 use Rattle.kinds.specs.declared.of_files.Kind.{Kind}
-use Rattle.kinds.specs.declared.of_files.Kind.the-variants.{EB13, EB14, EB21, EB22}
-use Rattle.kinds.specs.declared.of_files.Named.the-variants.{Is}
+use Rattle.kinds.specs.declared.of_files.Form.{Form}
+use Rattle.kinds.specs.declared.of_files.Form.the-variants.{EnrolmentRequest, EnrolmentResult, DebitRequest, DebitResult}
+use Rattle.kinds.specs.declared.of_files.Own.{Own}
 use Rattle.kinds.specs.declared.of_files.Role.the-variants.{Trailer}
 use Rattle.tables.specs.declared.rows.Row.{Row}
 use Rattle.tables.specs.declared.totals.Quantity.{Quantity}
 use Rattle.tables.specs.declared.totals.Total.{Total}
-use Rattle.kinds.specs.Kinds.{fixedOf}
+use Rattle.kinds.specs.Kinds.{kind, fixedFor, fixedOf}
 use Rattle.tables.specs.Rows.{blank}
-use Rattle.tables.specs.Tables.{trailerFront, enrolmentTrailer, eb13Trailer, eb21Trailer, rowsOf}
-use Rattle.tables.specs.Totals.{noTotal, enrolmentTotals, eb21Totals, totalsOf}
-use Rattle.records.specs.Records.{recordAt, countOf, trailerOf}
+use Rattle.tables.specs.Tables.{trailerFront, enrolmentTrailer, enrolmentRequestTrailer, debitRequestTrailer, rowsOf}
+use Rattle.tables.specs.Totals.{noTotal, enrolmentTotals, debitRequestTotals, debitResultTotals, totalsFor, totalsOf}
+use Rattle.records.specs.Records.{recordOf, trailerOf}
 use Rattle.records.specs.Quantities.{worth, worthAt, quantityOf}
 use Rattle.reader.specs.Totals.{totalHolds}
 use Rattle.reader.specs.Meets.{totalAt}
@@ -45,8 +46,9 @@ use Rattle.making.proofs.Lengths.{header-length, data-length, trailer-length}
 use Rattle.making.proofs.Over.{starts, endsPast, starts-over}
 use Rattle.making.proofs.Rows.{totals-few}
 use Rattle.making.proofs.Stores.{part-behind}
-use Rattle.writer.specs.Writing.{requestOf}
-use Rattle.writer.proofs.Requests.{not-request}
+use Rattle.kinds.proofs.Forms.{of-form}
+use Rattle.laws.proofs.Every.{every, every-at}
+use Rattle.writer.proofs.Built.{file-trailer, file-quantity}
 use Rattle.writer.proofs.Taken.{file-count, file-data}
 
 -- w digits of a number say it exactly when it has no more
@@ -94,86 +96,51 @@ abbrev at : Kind → ℕ → Total
 at k t = getD (totalsOf k) t noTotal
 
 -- the digits of each total stand at its item
-totals-stand :
-    (k : Kind) → requestOf (fixedOf k .name) ≡ Is k → (H totals : List ℕ) (t : ℕ) → t < length (totalsOf k) →
-    part (at k t .1) (at k t .2) (trailerBuilt k H totals) ≡ digitsOf (at k t .2) (getD totals t 0)
-unfolding requestOf starts endsPast none least further trailerFront enrolmentTrailer eb13Trailer eb21Trailer enrolmentTotals eb21Totals totalFor totalIs
-totals-stand EB13 e H totals zero h = given-total EB13 H totals 4 refl (λ g t. refl) (omega arith)
-totals-stand EB13 e H totals (suc zero) h = given-total EB13 H totals 5 refl (λ g t. refl) (omega arith)
-totals-stand EB13 e H totals (suc (suc zero)) h = given-total EB13 H totals 7 refl (λ g t. refl) (omega arith)
-totals-stand EB13 e H totals (suc (suc (suc zero))) h = given-total EB13 H totals 8 refl (λ g t. refl) (omega arith)
-totals-stand EB13 e H totals (suc (suc (suc (suc t)))) h = absurd (omega arith)
-totals-stand EB14 e H totals t h = absurd (not-request e)
-totals-stand EB21 e H totals zero h = given-total EB21 H totals 4 refl (λ g t. refl) (omega arith)
-totals-stand EB21 e H totals (suc zero) h = given-total EB21 H totals 5 refl (λ g t. refl) (omega arith)
-totals-stand EB21 e H totals (suc (suc zero)) h = given-total EB21 H totals 6 refl (λ g t. refl) (omega arith)
-totals-stand EB21 e H totals (suc (suc (suc t))) h = absurd (omega arith)
-totals-stand EB22 e H totals t h = absurd (not-request e)
+totals-stand-in :
+    (f : Form) (o : Own) → fixedFor f .written ≡ true → (H totals : List ℕ) (t : ℕ) → t < length (totalsFor f) →
+    part (at (kind f o) t .1) (at (kind f o) t .2) (trailerBuilt (kind f o) H totals) ≡ digitsOf (at (kind f o) t .2) (getD totals t 0)
+unfolding starts endsPast none least further trailerFront enrolmentTrailer enrolmentRequestTrailer debitRequestTrailer enrolmentTotals debitRequestTotals totalFor totalIs
+totals-stand-in EnrolmentRequest o e H totals zero h = given-total (kind EnrolmentRequest o) H totals 4 refl (λ g t. refl) (omega arith)
+totals-stand-in EnrolmentRequest o e H totals (suc zero) h = given-total (kind EnrolmentRequest o) H totals 5 refl (λ g t. refl) (omega arith)
+totals-stand-in EnrolmentRequest o e H totals (suc (suc zero)) h = given-total (kind EnrolmentRequest o) H totals 7 refl (λ g t. refl) (omega arith)
+totals-stand-in EnrolmentRequest o e H totals (suc (suc (suc zero))) h = given-total (kind EnrolmentRequest o) H totals 8 refl (λ g t. refl) (omega arith)
+totals-stand-in EnrolmentRequest o e H totals (suc (suc (suc (suc t)))) h = absurd (omega arith)
+totals-stand-in EnrolmentResult o e H totals t h = absurd (clash refl (sym e))
+totals-stand-in DebitRequest o e H totals zero h = given-total (kind DebitRequest o) H totals 4 refl (λ g t. refl) (omega arith)
+totals-stand-in DebitRequest o e H totals (suc zero) h = given-total (kind DebitRequest o) H totals 5 refl (λ g t. refl) (omega arith)
+totals-stand-in DebitRequest o e H totals (suc (suc zero)) h = given-total (kind DebitRequest o) H totals 6 refl (λ g t. refl) (omega arith)
+totals-stand-in DebitRequest o e H totals (suc (suc (suc t))) h = absurd (omega arith)
+totals-stand-in DebitResult o e H totals t h = absurd (clash refl (sym e))
 
-total-narrow : (k : Kind) → requestOf (fixedOf k .name) ≡ Is k → (t : ℕ) → t < length (totalsOf k) → at k t .2 ≤ 19
-unfolding requestOf enrolmentTotals eb21Totals
-total-narrow EB13 e zero h = omega arith
-total-narrow EB13 e (suc zero) h = omega arith
-total-narrow EB13 e (suc (suc zero)) h = omega arith
-total-narrow EB13 e (suc (suc (suc zero))) h = omega arith
-total-narrow EB13 e (suc (suc (suc (suc t)))) h = absurd (omega arith)
-total-narrow EB14 e t h = absurd (not-request e)
-total-narrow EB21 e zero h = omega arith
-total-narrow EB21 e (suc zero) h = omega arith
-total-narrow EB21 e (suc (suc zero)) h = omega arith
-total-narrow EB21 e (suc (suc (suc t))) h = absurd (omega arith)
-total-narrow EB22 e t h = absurd (not-request e)
+totals-stand :
+    (k : Kind) → fixedOf k .written ≡ true → (H totals : List ℕ) (t : ℕ) → t < length (totalsOf k) →
+    part (at k t .1) (at k t .2) (trailerBuilt k H totals) ≡ digitsOf (at k t .2) (getD totals t 0)
+totals-stand k e = totals-stand-in (k .form) (k .own) e
+
+total-narrow : (k : Kind) (t : ℕ) → t < length (totalsOf k) → at k t .2 ≤ 19
+unfolding enrolmentTotals debitRequestTotals debitResultTotals
+total-narrow k t h =
+    leb-true (at k t .2) 19
+    (every-at (λ (x : Total). leb (x .2) 19) (totalsOf k) (of-form (λ f. every (λ (x : Total). leb (x .2) 19) (totalsFor f)) refl (k .form)) t noTotal h)
 
 module _ (k : Kind) (h : Head) (bodies : List ℕ) where
-  abbrev w : ℕ
-  w = fixedOf k .size
-
-  abbrev n : ℕ
-  n = bodyCount k bodies
-
   abbrev H : List ℕ
   H = headerBuilt k h
 
-  abbrev T : List ℕ
-  T = trailerBuilt k H (builtTotals k H bodies)
-
   -- the trailer of the file is the one that was built
-  front-long : length (frontOf k h bodies) ≡ (n + 1) * w
-  unfolding frontOf
-  front-long =
-      length-append H (joined (dataBuilt k H bodies) n) ∙
-      rw (header-length k h, joined-length (dataBuilt k H bodies) w (data-length k H bodies) n, add-one, suc-mul) (add-comm w (n * w))
-
-  pub file-trailer : trailerOf k (fileOf k h bodies) ≡ T
-  unfolding recordAt fileOf part
-  file-trailer =
-      ap (λ (i : ℕ). part (i * w) w (frontOf k h bodies ++ T)) place ∙
-      (ap (λ (a : ℕ). part a w (frontOf k h bodies ++ T)) (sym (add-zero ((n + 1) * w))) ∙
-      (part-behind 0 w ((n + 1) * w) (frontOf k h bodies) T front-long ∙ all))
-    where
-      place : countOf k (frontOf k h bodies ++ T) - 1 ≡ n + 1
-      place = omega (arith, file-count k h bodies)
-
-      all : part 0 w T ≡ T
-      all = take-all w T (rw (trailer-length k H (builtTotals k H bodies)) (omega arith))
-
-  -- what its records give is what the records that were built give
-  pub file-quantity : (q : Quantity) → quantityOf k (fileOf k h bodies) q ≡ builtQuantity k H bodies q
-  unfolding quantityOf builtQuantity worthAt builtWorth
-  file-quantity q =
-      ap (sum (worthAt k (fileOf k h bodies) q)) (omega (arith, file-count k h bodies)) ∙
-      sum-same (worthAt k (fileOf k h bodies) q) (builtWorth k H bodies q) n (λ i l. ap (worth q) (file-data k h bodies i l))
+  trailer-is : trailerOf k (fileOf k h bodies) ≡ trailerBuilt k H (builtTotals k H bodies)
+  trailer-is = ap (λ (i : ℕ). recordOf k (fileOf k h bodies) i) (omega (arith, file-count k h bodies)) ∙ file-trailer k h bodies
 
   -- *Totals within their digits*: a total of the file to be written holds exactly when its item has digits enough for it
   pub total-within :
-      requestOf (fixedOf k .name) ≡ Is k → (t : ℕ) → t < length (totalsOf k) →
+      fixedOf k .written ≡ true → (t : ℕ) → t < length (totalsOf k) →
       totalAt k (fileOf k h bodies) t ≡ ltb (quantityOf k (fileOf k h bodies) (at k t .3)) (10 ^ at k t .2)
   unfolding totalHolds builtTotals builtTotal
   total-within e t l =
       rw (
-        file-trailer,
+        trailer-is,
         totals-stand k e H (builtTotals k H bodies) t l,
         tab-at (builtTotal k H bodies) 5 t (omega (arith, totals-few k)),
         lt-ltb t (length (totalsOf k)) l,
-        file-quantity (at k t .3),
-      ) (says-within (at k t .2) (builtQuantity k H bodies (at k t .3)) (total-narrow k e t l))
+        file-quantity k h bodies (at k t .3),
+      ) (says-within (at k t .2) (builtQuantity k H bodies (at k t .3)) (total-narrow k t l))

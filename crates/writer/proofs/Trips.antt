@@ -18,7 +18,8 @@ use Rattle.reader.proofs.Exact.{read-exact, accepted-meets}
 use Rattle.reader.proofs.Accepted.{read-named}
 use Rattle.making.specs.Records.{Head}
 use Rattle.making.specs.Files.{fileOf}
-use Rattle.writer.specs.Writing.{requestOf, writeAs, afterAs, writeNamed, writeOf, afterNamed, roomAfter}
+use Rattle.writer.specs.Writing.{writeAs, afterAs, writeNamed, writeOf, afterNamed, roomAfter}
+use Rattle.kinds.specs.Kinds.{requestOf}
 use Rattle.writer.specs.Apart.{headIn, bodiesIn}
 use Rattle.writer.specs.Says.{fitting, writersOwn, Tells, Wrote, Agrees}
 use Rattle.writer.proofs.Requests.{request-kind}

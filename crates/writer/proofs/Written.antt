@@ -14,7 +14,7 @@ use Rattle.answers.specs.Answers.{refused}
 use Rattle.reader.specs.Reading.{readAs}
 use Rattle.making.specs.Records.{Head, bodyCount}
 use Rattle.making.specs.Files.{fileOf}
-use Rattle.writer.specs.Writing.{partsFit, size6, size7, writeAs, afterAs}
+use Rattle.writer.specs.Writing.{partsFit, writeAs, afterAs}
 use Rattle.making.proofs.Built.{file-length}
 
 module _ (k : Kind) (h : Head) (bodies room : List ℕ) where
@@ -28,22 +28,22 @@ module _ (k : Kind) (h : Head) (bodies room : List ℕ) where
   unfolding afterAs
   after-good e = rw (eq-eqb (writeAs k h bodies (length room) .number) 0 e, file-length k h bodies)
 
-  pub write-2 : partsFit h bodies (size6 k) (size7 k) (fixedOf k .body) ≡ false → writeAs k h bodies (length room) ≡ refused 2
+  pub write-2 : partsFit h bodies (fixedOf k .item6) (fixedOf k .item7) (fixedOf k .body) ≡ false → writeAs k h bodies (length room) ≡ refused 2
   unfolding writeAs
   write-2 f = rw f
 
-  pub write-3 : partsFit h bodies (size6 k) (size7 k) (fixedOf k .body) ≡ true → limit < bodyCount k bodies → writeAs k h bodies (length room) ≡ refused 3
+  pub write-3 : partsFit h bodies (fixedOf k .item6) (fixedOf k .item7) (fixedOf k .body) ≡ true → limit < bodyCount k bodies → writeAs k h bodies (length room) ≡ refused 3
   unfolding writeAs
   write-3 t l = rw (t, lt-leb (bodyCount k bodies) limit l)
 
   pub write-8 :
-      partsFit h bodies (size6 k) (size7 k) (fixedOf k .body) ≡ true → bodyCount k bodies ≤ limit →
+      partsFit h bodies (fixedOf k .item6) (fixedOf k .item7) (fixedOf k .body) ≡ true → bodyCount k bodies ≤ limit →
       length room < (bodyCount k bodies + 2) * fixedOf k .size → writeAs k h bodies (length room) ≡ refused 8
   unfolding writeAs
   write-8 t l r = rw (t, le-leb (bodyCount k bodies) limit l, lt-leb ((bodyCount k bodies + 2) * fixedOf k .size) (length room) r)
 
   pub write-read :
-      partsFit h bodies (size6 k) (size7 k) (fixedOf k .body) ≡ true → bodyCount k bodies ≤ limit →
+      partsFit h bodies (fixedOf k .item6) (fixedOf k .item7) (fixedOf k .body) ≡ true → bodyCount k bodies ≤ limit →
       (bodyCount k bodies + 2) * fixedOf k .size ≤ length room → writeAs k h bodies (length room) ≡ readAs k (fileOf k h bodies)
   unfolding writeAs
   write-read t l r = rw (t, le-leb (bodyCount k bodies) limit l, le-leb ((bodyCount k bodies + 2) * fixedOf k .size) (length room) r)
@@ -56,7 +56,7 @@ module _ (k : Kind) (h : Head) (bodies room : List ℕ) where
   told-bad number a ne e w = (e ∙ sym w, sym (after-bad (λ z. ne (ap (λ (x : Answer). x .number) (sym w) ∙ z))))
 
   -- each return of the writer, from the tests on its way
-  module _ (a : Answer) (fit : Bool) (is : fit ≡ partsFit h bodies (size6 k) (size7 k) (fixedOf k .body)) where
+  module _ (a : Answer) (fit : Bool) (is : fit ≡ partsFit h bodies (fixedOf k .item6) (fixedOf k .item7) (fixedOf k .body)) where
     pub told-2 : fit ≡ false → a ≡ refused 2 → Told a room
     told-2 f e = told-bad 2 a (λ z. omega arith) e (write-2 (sym is ∙ f))
 

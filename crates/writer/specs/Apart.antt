@@ -9,12 +9,11 @@ use Rattle.tables.specs.Places.{codePlace, branchPlace, accountPlace}
 use Rattle.layout.specs.Items.{bytesAt, dateOf}
 use Rattle.records.specs.Records.{recordOf, dataOf}
 use Rattle.making.specs.Records.{Head, headOf}
-use Rattle.writer.specs.Writing.{size6, size7}
 
 -- what a header is written from, of a header: items 5, 3, 6 and 7
 abbrev pub headFrom : Kind → List ℕ → Head
 headFrom k header =
-    headOf (dateOf header) (bytesAt codePlace header) (part (branchPlace .1) (size6 k) header) (part (accountPlace .1) (size7 k) header)
+    headOf (dateOf header) (bytesAt codePlace header) (part (branchPlace .1) (fixedOf k .item6) header) (part (accountPlace .1) (fixedOf k .item7) header)
 
 -- and of a file
 unfoldable pub headIn : Kind → List ℕ → Head

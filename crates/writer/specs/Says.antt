@@ -6,7 +6,7 @@ use mathlib.Core.Path.{_≡_}
 use lib.Dec.{eqb}
 use lib.ListN.{length, getD, drop}
 use Rattle.kinds.specs.declared.of_files.Kind.{Kind}
-use Rattle.kinds.specs.declared.of_files.Kind.the-variants.{EB21}
+use Rattle.kinds.specs.declared.of_files.Form.the-variants.{DebitRequest}
 use Rattle.kinds.specs.declared.of_files.Named.the-variants.{Is}
 use Rattle.tables.specs.declared.totals.Quantity.the-variants.{Amounts}
 use Rattle.kinds.specs.Kinds.{fixedOf, limit}
@@ -18,7 +18,8 @@ use Rattle.reader.specs.Reading.{readAs, readOf}
 use Rattle.reader.specs.Meets.{RowsHold}
 use Rattle.making.specs.Records.{Head, bodyCount}
 use Rattle.making.specs.Files.{fileOf}
-use Rattle.writer.specs.Writing.{requestOf, partsFit, size6, size7, roomAfter}
+use Rattle.writer.specs.Writing.{partsFit, roomAfter}
+use Rattle.kinds.specs.Kinds.{requestOf}
 use Rattle.writer.specs.Apart.{headIn, bodiesIn}
 
 -- every element is a byte
@@ -27,7 +28,7 @@ Bytes s = (i : ℕ) → i < length s → getD s i 0 < 256
 
 -- what is given fits: every part is as long as its item, and the bodies are whole
 abbrev pub fitting : Kind → Head → List ℕ → Bool
-fitting k h bodies = partsFit h bodies (size6 k) (size7 k) (fixedOf k .body)
+fitting k h bodies = partsFit h bodies (fixedOf k .item6) (fixedOf k .item7) (fixedOf k .body)
 
 -- the numbers that only the writer says of a file to be written
 unfoldable pub writersOwn : ℕ → Bool
@@ -64,10 +65,17 @@ pub record Agrees (kind : ℕ) (h : Head) (bodies : List ℕ) (a : Answer) : Typ
   pub says : a ≡ readOf kind (fileOf k h bodies)
 
 -- 6, which only a debit request is told: nothing else is wrong before it, and the amounts sum to more than 13 digits say
-pub record TooMuch (h : Head) (bodies : List ℕ) (room : ℕ) : Type 0 where
-  pub fits : fitting EB21 h bodies ≡ true
-  pub few : bodyCount EB21 bodies ≤ limit
-  pub enough : length (fileOf EB21 h bodies) ≤ room
+pub record TooMuch (k : Kind) (h : Head) (bodies : List ℕ) (room : ℕ) : Type 0 where
+  pub fits : fitting k h bodies ≡ true
+  pub few : bodyCount k bodies ≤ limit
+  pub enough : length (fileOf k h bodies) ≤ room
   -- every row of every record of the file to be written holds
-  pub rows : RowsHold EB21 (fileOf EB21 h bodies) (countOf EB21 (fileOf EB21 h bodies))
-  pub past : 10 ^ 13 ≤ quantityOf EB21 (fileOf EB21 h bodies) Amounts
+  pub rows : RowsHold k (fileOf k h bodies) (countOf k (fileOf k h bodies))
+  pub past : 10 ^ 13 ≤ quantityOf k (fileOf k h bodies) Amounts
+
+-- a number that names a debit request, of which that is so
+pub record OnlyDebit (kind : ℕ) (h : Head) (bodies : List ℕ) (room : ℕ) : Type 0 where
+  pub k : Kind
+  pub named : requestOf kind ≡ Is k
+  pub debit : k .form ≡ DebitRequest
+  pub much : TooMuch k h bodies room

@@ -1,21 +1,17 @@
 // Writing a request file: 1, 2, 3, 8, then as reading the file to be written.
 ghost use mathlib.Core.Path.{_≡_};
-ghost use Prim.Native.Nat.{_≤_, _<_};
+ghost use Prim.Native.Nat.{_<_};
 ghost use lib.ListN.{length};
-ghost use Rattle.kinds.specs.Kinds.{limit};
-ghost use Rattle.reader.specs.Reading.{readAs};
 ghost use Rattle.making.specs.Records.{headOf, bodyCount};
-ghost use Rattle.making.specs.Files.{fileOf};
-ghost use Rattle.writer.specs.Writing.{partsFit, size6, size7, writeAs, afterAs, writeOf, roomAfter};
+ghost use Rattle.writer.specs.Writing.{partsFit, writeAs, afterAs, writeOf, roomAfter};
+use crate::deciding;
 use answers::told::Answer;
+use kinds::of_files;
 use kinds::of_files::Fixed;
 use kinds::of_files::Kind;
 use kinds::of_files::LIMIT;
+use kinds::of_files::Named;
 use making::files;
-use reader::reading;
-
-// The longest file.
-const FRAME: usize = (LIMIT + 2) * Fixed::DEBIT_SIZE;
 
 // Every part is as long as its item, and the bodies are whole.
 fn parts_fit(
@@ -24,12 +20,12 @@ fn parts_fit(
     item6: &[u8],
     item7: &[u8],
     bodies: &[u8],
-    size6: usize,
-    size7: usize,
+    long6: usize,
+    long7: usize,
     body: usize,
 ) -> bool
     requires { ⌜ 0 < body ⌝ }
-    ensures { λ r. ⌜ r ≡ partsFit (headOf (now (date .entry)) (now (code .entry)) (now (item6 .entry)) (now (item7 .entry))) (now (bodies .entry)) size6 size7 body ⌝ }
+    ensures { λ r. ⌜ r ≡ partsFit (headOf (now (date .entry)) (now (code .entry)) (now (item6 .entry)) (now (item7 .entry))) (now (bodies .entry)) long6 long7 body ⌝ }
 {
     if date.len() != 6 {
         return false;
@@ -37,10 +33,10 @@ fn parts_fit(
     if code.len() != 10 {
         return false;
     }
-    if item6.len() != size6 {
+    if item6.len() != long6 {
         return false;
     }
-    item7.len() == size7 && bodies.len() % body == 0
+    item7.len() == long7 && bodies.len() % body == 0
 }
 
 fn body_count(kind: Kind, bodies: &[u8]) -> usize
@@ -49,31 +45,9 @@ fn body_count(kind: Kind, bodies: &[u8]) -> usize
     bodies.len() / Fixed::of(kind).body
 }
 
-// What reading the file to be written says, with the file made in a frame of its own.
-fn judge(
-    kind: Kind,
-    date: &[u8],
-    code: &[u8],
-    item6: &[u8],
-    item7: &[u8],
-    bodies: &[u8],
-    n: usize,
-) -> Answer
-    requires { ⌜ n ≡ bodyCount kind (now bodies) ⌝ }
-    requires { ⌜ n ≤ limit ⌝ }
-    ensures { λ r. ⌜ r ≡ readAs kind (fileOf kind (headOf (now (date .entry)) (now (code .entry)) (now (item6 .entry)) (now (item7 .entry))) (now (bodies .entry))) ⌝ }
-{
-    let mut frame = [0u8; FRAME];
-    files::put(kind, date, code, item6, item7, bodies, n, &mut frame);
-    let whole = (n + 2) * Fixed::size_of(kind);
-    reading::read_as(kind, &frame[..whole])
-}
-
-// Decides first, then stores. Items 6 and 7 of the header are `long6` and `long7` bytes long.
+// Decides first, then stores.
 fn write_as(
     kind: Kind,
-    long6: usize,
-    long7: usize,
     date: &[u8],
     code: &[u8],
     item6: &[u8],
@@ -81,13 +55,20 @@ fn write_as(
     bodies: &[u8],
     room: &mut [u8],
 ) -> Answer
-    requires { ⌜ long6 ≡ size6 kind ⌝ }
-    requires { ⌜ long7 ≡ size7 kind ⌝ }
     ensures { λ r. ⌜ r ≡ writeAs kind (headOf (now (date .entry)) (now (code .entry)) (now (item6 .entry)) (now (item7 .entry))) (now (bodies .entry)) (length (now (room .entry))) ⌝ }
     ensures { λ _. ⌜ now (room .exit) ≡ afterAs kind (headOf (now (date .entry)) (now (code .entry)) (now (item6 .entry)) (now (item7 .entry))) (now (bodies .entry)) (now (room .entry)) ⌝ }
 {
-    let body = Fixed::of(kind).body;
-    if parts_fit(date, code, item6, item7, bodies, long6, long7, body) {
+    let fixed = Fixed::of(kind);
+    if parts_fit(
+        date,
+        code,
+        item6,
+        item7,
+        bodies,
+        fixed.item6,
+        fixed.item7,
+        fixed.body,
+    ) {
         let n = body_count(kind, bodies);
         if LIMIT < n {
             return Answer::refused(3);
@@ -95,7 +76,7 @@ fn write_as(
         if room.len() < (n + 2) * Fixed::size_of(kind) {
             return Answer::refused(8);
         }
-        let answer = judge(kind, date, code, item6, item7, bodies, n);
+        let answer = deciding::judge(kind, date, code, item6, item7, bodies, n);
         if answer.number == 0 {
             files::put(kind, date, code, item6, item7, bodies, n, room);
         }
@@ -117,11 +98,9 @@ pub fn write(
     ensures { λ r. ⌜ r ≡ writeOf kind (headOf (now (date .entry)) (now (code .entry)) (now (item6 .entry)) (now (item7 .entry))) (now (bodies .entry)) (length (now (room .entry))) ⌝ }
     ensures { λ _. ⌜ now (room .exit) ≡ roomAfter kind (headOf (now (date .entry)) (now (code .entry)) (now (item6 .entry)) (now (item7 .entry))) (now (bodies .entry)) (now (room .entry)) ⌝ }
 {
-    if kind == Fixed::EB13 {
-        return write_as(Kind::EB13, 0, 0, date, code, item6, item7, bodies, room);
+    let named = of_files::request_of(kind);
+    match named {
+        Named::Is(request) => write_as(request, date, code, item6, item7, bodies, room),
+        Named::Unknown => Answer::refused(1),
     }
-    if kind == Fixed::EB21 {
-        return write_as(Kind::EB21, 7, 16, date, code, item6, item7, bodies, room);
-    }
-    Answer::refused(1)
 }

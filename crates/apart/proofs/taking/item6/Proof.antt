@@ -8,15 +8,15 @@ use Rattle.apart.proofs.taking.item6.Tie as tie
 header-requires : tie.Need-header-requires
 header-requires c κs = search needs
 
-size-6-requires : tie.Need-size-6-requires
-size-6-requires c κs = search needs
+of-requires : tie.Need-of-requires
+of-requires c κs = search needs
 
 part-of-requires : tie.Need-part-of-requires
 part-of-requires c κs = search needs
 
 returns : tie.Need-returns
 unfolding headIn
-returns c = c .part-of .ensures ∙ rw (c .before .size-6 .ensures, c .before .before .header .ensures)
+returns c = c .part-of .ensures ∙ rw (c .before .of .ensures, c .before .before .header .ensures)
 
 pub item6-spec : {M : Type 1} → statement M
-item6-spec = tie.close (tie.spec header-requires size-6-requires part-of-requires returns)
+item6-spec = tie.close (tie.spec header-requires of-requires part-of-requires returns)

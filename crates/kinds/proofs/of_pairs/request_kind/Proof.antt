@@ -1,4 +1,4 @@
--- By the pair kind.
+-- By the family.
 use borrow.Author.Needs.{needs}
 use Rattle.kinds.proofs.of_pairs.request_kind.Statement.{statement}
 use Rattle.kinds.proofs.of_pairs.request_kind.Tie as tie
@@ -10,10 +10,10 @@ enum-told-2 : tie.Need-enum-told-2
 enum-told-2 c = search needs
 
 returns : tie.Need-returns
-returns c = search needs
+returns c = rw (c .enum-told .given .1)
 
 returns-2 : tie.Need-returns-2
-returns-2 c = search needs
+returns-2 c = rw (c .enum-told2 .given .1)
 
 pub request-kind-spec : {M : Type 1} → statement M
 request-kind-spec = tie.close (tie.spec enum-told enum-told-2 returns returns-2)

@@ -1,87 +1,27 @@
--- The loop looks for the first row that does not hold.
-use Prim.Native.Nat.{_≤_, _-_}
-use Rattle.laws.proofs.Leasts.{least-start}
-use Rattle.layout.proofs.Judged.{row-good, laid-stop, laid-end}
+-- The rows of the kind, laid out, tell what they tell.
+use Rattle.layout.proofs.Judged.{laid-tells}
 use Rattle.rows.proofs.Laying.{laid-inside}
-use Rattle.rows.specs.Laid.{most}
 use Rattle.tables.proofs.Tiling.{size-least}
-use Rattle.answers.proofs.Refusals.{So-far, told-more}
-use Rattle.layout.specs.Judging.{rowTells}
 use borrow.Author.Needs.{needs}
-use mathlib.Core.Path.{sym}
-use native.Mathlib.Nat.{le-antisymm}
+use mathlib.Core.Path.{_∙_}
 use native.Mathlib.Omega.{arith}
 use Rattle.layout.proofs.judging.judge.Statement.{statement}
 use Rattle.layout.proofs.judging.judge.Tie as tie
 
-abbrev Inv-loop : tie.InvT-loop
-Inv-loop kind rec header number rows i₀ i = (i ≤ most) × So-far (rowTells kind rows rec header number) i
-
-abbrev μ-loop : tie.MeasureT-loop
-μ-loop kind rec header number rows i₀ i = most - i
-
-rows-of-requires : tie.Need-rows-of-requires Inv-loop μ-loop
+rows-of-requires : tie.Need-rows-of-requires
 rows-of-requires c κs = search needs
 
-loop-holds : tie.Need-loop-holds Inv-loop μ-loop
-loop-holds c = (search needs, least-start _)
+judge-rows-requires : tie.Need-judge-rows-requires
+judge-rows-requires c κs =
+    let b = c .before .before .before .before in
+    let within = laid-inside (b .args .kind) (b .args .role) (c .rows-of .result) (c .rows-of .ensures) in
+    let least = size-least (b .args .kind) in
+    (λ i. omega (arith, within i, b .pre .0), (λ i. omega (arith, within i, b .pre .1), (omega (arith, least, b .pre .0), omega (arith, least, b .pre .1))))
 
-mul-row : tie.Need-mul-row Inv-loop μ-loop
-mul-row c = search needs
-
-array-copy-out-row : tie.Need-array-copy-out-row Inv-loop μ-loop
-array-copy-out-row c = search needs
-
-holds-requires : tie.Need-holds-requires Inv-loop μ-loop
-holds-requires c κs =
-    let a = c .before .before .before .before .before .before .args in
-    let t = c .before .before .before .rows-of in
-    omega (arith, laid-inside (a .kind) (a .role) (t .result) (t .ensures) (c .before .before .loop .i), size-least (a .kind))
-
-add-i : tie.Need-add-i Inv-loop μ-loop
-add-i c = search needs
-
-loop-less : tie.Need-loop-less Inv-loop μ-loop
-loop-less c = search needs
-
-loop-again : tie.Need-loop-again Inv-loop μ-loop
-loop-again c =
-    let l = c .before .before .before .before .loop in
-    (search needs, told-more _ (l .i) (l .inv .1) (row-good _ _ _ _ _ (l .i) (rw (← c .before .holds .ensures) (c .if1 .taken))))
-
-broken-at-requires : tie.Need-broken-at-requires Inv-loop μ-loop
-broken-at-requires c κs = search needs
-
-returns : tie.Need-returns Inv-loop μ-loop
+returns : tie.Need-returns
 returns c =
-    let l = c .before .before .before .before .before .loop in
-    let t = c .before .before .before .before .before .before .rows-of in
-    rw (c .broken-at .ensures) (sym (laid-stop _ _ (t .result) (t .ensures) _ _ _ (l .i) (omega arith) (l .inv .1) (rw (← c .before .before .holds .ensures) (c .before .if1 .left))))
-
-accepted-requires : tie.Need-accepted-requires Inv-loop μ-loop
-accepted-requires c κs = search needs
-
-returns-2 : tie.Need-returns-2 Inv-loop μ-loop
-returns-2 c =
-    let l = c .before .before .loop in
-    let t = c .before .before .before .rows-of in
-    rw (c .accepted .ensures) (sym (laid-end _ _ (t .result) (t .ensures) _ _ _ (rw (le-antisymm (c .before .loop-test .left) (l .inv .0)) (l .inv .1))))
+    let a = c .before .before .before .before .before .args in
+    c .judge-rows .ensures ∙ laid-tells (a .kind) (a .role) (c .before .rows-of .result) (c .before .rows-of .ensures) _ _ _
 
 pub judge-spec : {M : Type 1} → statement M
-judge-spec =
-    tie.close
-    (tie.spec
-    Inv-loop
-    μ-loop
-    rows-of-requires
-    loop-holds
-    mul-row
-    array-copy-out-row
-    holds-requires
-    add-i
-    loop-less
-    loop-again
-    broken-at-requires
-    returns
-    accepted-requires
-    returns-2)
+judge-spec = tie.close (tie.spec rows-of-requires judge-rows-requires returns)

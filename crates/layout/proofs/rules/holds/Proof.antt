@@ -44,9 +44,6 @@ enum-told-5 c = search needs
 word-requires : tie.Need-word-requires
 word-requires c κs = search needs
 
-of-requires : tie.Need-of-requires
-of-requires c κs = search needs
-
 enum-told-6 : tie.Need-enum-told-6
 enum-told-6 c = search needs
 
@@ -119,9 +116,6 @@ partly-requires c κs = search needs
 enum-told-15 : tie.Need-enum-told-15
 enum-told-15 c = search needs
 
-of-requires-2 : tie.Need-of-requires-2
-of-requires-2 c κs = search needs
-
 enough-requires : tie.Need-enough-requires
 enough-requires c κs = search needs
 
@@ -147,7 +141,7 @@ returns-5 c = rw (c .before .enum-told4 .given .1, ← c .before .before .before
 
 returns-6 : tie.Need-returns-6
 unfolding holds meets
-returns-6 c = rw (c .before .before .before .enum-told5 .given .1, ← c .before .before .before .before .before .part .ensures .0, ← c .before .before .word .ensures, ← c .before .of .ensures)
+returns-6 c = rw (c .before .before .enum-told5 .given .1, ← c .before .before .before .before .part .ensures .0, ← c .before .word .ensures)
 
 returns-7 : tie.Need-returns-7
 unfolding holds meets
@@ -191,7 +185,7 @@ returns-16 c = rw (c .before .before .before .enum-told14 .given .1, ← c .befo
 
 returns-17 : tie.Need-returns-17
 unfolding holds meets
-returns-17 c = rw (c .before .before .enum-told15 .given .1, ← c .before .before .before .before .part .ensures .0, ← c .before .of2 .ensures) (c .enough .ensures)
+returns-17 c = rw (c .before .enum-told15 .given .1, ← c .before .before .before .part .ensures .0) (c .enough .ensures)
 
 pub holds-spec : {M : Type 1} → statement M
 holds-spec =
@@ -210,7 +204,6 @@ holds-spec =
     institution-requires
     enum-told-5
     word-requires
-    of-requires
     enum-told-6
     date-requires
     enum-told-7
@@ -235,7 +228,6 @@ holds-spec =
     failed-requires-2
     partly-requires
     enum-told-15
-    of-requires-2
     enough-requires
     returns
     returns-2

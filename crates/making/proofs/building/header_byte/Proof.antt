@@ -11,9 +11,6 @@ past-requires c κs = search needs
 given-byte-requires : tie.Need-given-byte-requires
 given-byte-requires c κs = omega (arith, c .past .ensures)
 
-of-requires : tie.Need-of-requires
-of-requires c κs = search needs
-
 letter-requires : tie.Need-letter-requires
 letter-requires c κs = search needs
 
@@ -23,12 +20,11 @@ fill-requires c κs = search needs
 returns : tie.Need-returns
 unfolding headerByte headerFill
 returns c =
-    let g = c .before .before .before in
+    let g = c .before .before in
     rw (
       ← g .before .before .before .before .before .before .pre .0,
       ← g .before .past .ensures,
       ← g .given-byte .ensures,
-      ← c .before .before .of .ensures,
       ← c .before .letter .ensures,
     ) (c .fill .ensures)
 
@@ -38,7 +34,6 @@ header-byte-spec =
     (tie.spec
     past-requires
     given-byte-requires
-    of-requires
     letter-requires
     fill-requires
     returns)

@@ -1,8 +1,7 @@
 -- Where the keys of the requests stand among the results.
-use Rattle.matching.proofs.Found.{result-fits}
 use Rattle.matching.specs.Matching.{resultsFor}
-use Rattle.reader.proofs.Places.{key-fits}
-use Rattle.kinds.specs.Pairs.{requestKind}
+use Rattle.reader.proofs.Places.{first-fits, key-fits}
+use Rattle.kinds.specs.Pairs.{requestKind, resultKind}
 use native.Mathlib.Omega.{arith}
 use borrow.Author.Needs.{needs}
 use Rattle.matching.proofs.lookup.results_for.Statement.{statement}
@@ -11,51 +10,63 @@ use Rattle.matching.proofs.lookup.results_for.Tie as tie
 request-kind-requires : tie.Need-request-kind-requires
 request-kind-requires c κs = search needs
 
-of-requires : tie.Need-of-requires
-of-requires c κs = search needs
-
 result-kind-requires : tie.Need-result-kind-requires
 result-kind-requires c κs = search needs
+
+spacing-requires : tie.Need-spacing-requires
+spacing-requires c κs =
+    let p = c .before .before .before .before in
+    rw (c .result-kind .ensures) (first-fits (resultKind (p .args .pair)) (p .args .result .now) (p .pre .1 .0) (search needs))
 
 data-count-requires : tie.Need-data-count-requires
 data-count-requires c κs = search needs
 
+spacing-requires-2 : tie.Need-spacing-requires-2
+spacing-requires-2 c κs =
+    let k = c .before .before in
+    let p = k .before .before .before .before in
+    rw (k .before .request-kind .ensures) (first-fits (requestKind (p .args .pair)) (p .args .request .now) (p .pre .0) (search needs))
+
 data-count-requires-2 : tie.Need-data-count-requires-2
 data-count-requires-2 c κs = search needs
 
-first-key-requires : tie.Need-first-key-requires
-first-key-requires c κs = search needs
+slice-aggregate-places-in : tie.Need-slice-aggregate-places-in
+slice-aggregate-places-in c = search needs
 
-places-requires : tie.Need-places-requires
-places-requires c κs =
-    let k = c .before .before .before .before in
-    let b = k .before .before .before .before in
-    let a = b .args in
-    rw (c .first-key .ensures, c .before .data-count2 .ensures, c .before .before .data-count .ensures, c .before .before .before .result-kind .ensures, k .of .ensures, k .before .request-kind .ensures) (
-      omega (arith, b .pre .1 .1),
+places-in-requires : tie.Need-places-in-requires
+places-in-requires c κs =
+    let m = c .before in
+    let n = m .before .before in
+    let k = n .before .before in
+    let p = k .before .before .before .before in
+    let a = p .args in
+    rw (m .data-count2 .ensures, m .before .spacing2 .ensures, n .data-count .ensures, n .before .spacing .ensures, k .result-kind .ensures, k .before .request-kind .ensures) (
+      omega (arith, p .pre .1 .1),
       (
-        result-fits (a .pair) (a .result .now) _ (omega (arith, b .pre .1 .0)),
-        key-fits (requestKind (a .pair)) (a .request .now) _ (omega (arith, b .pre .0)),
+        key-fits (resultKind (a .pair)) (a .result .now) _ (omega (arith, p .pre .1 .0)),
+        key-fits (requestKind (a .pair)) (a .request .now) _ (omega (arith, p .pre .0)),
       ),
     )
 
 returns : tie.Need-returns
 unfolding resultsFor
 returns c =
-    let n = c .before .before in
-    let k = n .before .before .before in
-    rw (c .before .first-key .ensures, n .data-count2 .ensures, n .before .data-count .ensures, n .before .before .result-kind .ensures, k .of .ensures, k .before .request-kind .ensures)
-    at (c .places .ensures)
+    let m = c .before .before .before in
+    let n = m .before .before in
+    let k = n .before .before in
+    rw (m .data-count2 .ensures, m .before .spacing2 .ensures, n .data-count .ensures, n .before .spacing .ensures, k .result-kind .ensures, k .before .request-kind .ensures)
+    at (c .before .places-in .ensures)
 
 pub results-for-spec : {M : Type 1} → statement M
 results-for-spec =
     tie.close
     (tie.spec
     request-kind-requires
-    of-requires
     result-kind-requires
+    spacing-requires
     data-count-requires
+    spacing-requires-2
     data-count-requires-2
-    first-key-requires
-    places-requires
+    slice-aggregate-places-in
+    places-in-requires
     returns)

@@ -1,19 +1,16 @@
--- By the pair kind.
+-- By the result's kind.
 use borrow.Author.Needs.{needs}
 use Rattle.outcomes.proofs.asking.mark_start.Statement.{statement}
 use Rattle.outcomes.proofs.asking.mark_start.Tie as tie
 
-enum-told : tie.Need-enum-told
-enum-told c = search needs
+result-kind-requires : tie.Need-result-kind-requires
+result-kind-requires c κs = search needs
 
-enum-told-2 : tie.Need-enum-told-2
-enum-told-2 c = search needs
+of-requires : tie.Need-of-requires
+of-requires c κs = search needs
 
 returns : tie.Need-returns
-returns c = search needs
-
-returns-2 : tie.Need-returns-2
-returns-2 c = search needs
+returns c = rw (c .of .ensures, c .before .result-kind .ensures)
 
 pub mark-start-spec : {M : Type 1} → statement M
-mark-start-spec = tie.close (tie.spec enum-told enum-told-2 returns returns-2)
+mark-start-spec = tie.close (tie.spec result-kind-requires of-requires returns)

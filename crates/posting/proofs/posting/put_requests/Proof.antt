@@ -5,7 +5,7 @@ use Rattle.matching.proofs.Found.{result-of, results-length}
 use Rattle.posting.proofs.Following.{Put, put, joined-none, joined-next}
 use Rattle.posting.specs.Lines.{requestLine}
 use Rattle.posting.specs.Posting.{lineAt}
-use Rattle.kinds.specs.declared.of_pairs.PairKind.the-variants.{Debit}
+use Rattle.kinds.specs.Pairs.{debitPair}
 use lib.ListN.{length}
 use mathlib.Core.Path.{_≡_, refl, _∙_}
 use native.Mathlib.Nat.{le-antisymm}
@@ -32,7 +32,7 @@ mul-outcome-at c = search needs
 shared-slice-read-outcome-at : tie.Need-shared-slice-read-outcome-at Inv-loop μ-loop
 shared-slice-read-outcome-at c =
     let b = c .before .before .before .before .before .before .before in
-    rw (b .pre .1 .1 .0, results-length Debit (b .args .request .now) (b .args .result .now)) (omega (arith, b .pre .1 .0, c .before .loop-test .taken))
+    rw (b .pre .1 .1 .0, results-length debitPair (b .args .request .now) (b .args .result .now)) (omega (arith, b .pre .1 .0, c .before .loop-test .taken))
 
 outcome-at-requires : tie.Need-outcome-at-requires Inv-loop μ-loop
 outcome-at-requires c κs =
@@ -40,7 +40,7 @@ outcome-at-requires c κs =
     let a = b .args in
     let p = b .pre in
     let less = c .before .loop-test .taken in
-    (omega (arith, p .0, less), rw (p .1 .1 .0) (result-of Debit (a .request .now) (a .result .now) (omega (arith, p .0, p .1 .0)) (c .before .before .loop .i) (omega (arith, p .0, less))))
+    (omega (arith, p .0, less), rw (p .1 .1 .0) (result-of debitPair (a .request .now) (a .result .now) (omega (arith, p .0, p .1 .0)) (c .before .before .loop .i) (omega (arith, p .0, less))))
 
 add-put-request : tie.Need-add-put-request Inv-loop μ-loop
 add-put-request c = search needs

@@ -1,6 +1,5 @@
 -- By whether there is a repeated key.
-use Rattle.records.proofs.Places.{record-inside}
-use Rattle.reader.proofs.Places.{key-inside, keys-by, key-fits}
+use Rattle.reader.proofs.Places.{first-fits, keys-by, key-fits}
 use Rattle.reader.specs.Keys.{repeatTold}
 use borrow.Author.Needs.{needs}
 use borrow.Author.Tests.{lt-ltb, le-ltb}
@@ -17,15 +16,15 @@ count-requires c κs = search needs
 sub-n : tie.Need-sub-n
 sub-n c = search needs
 
-add-first-repeat : tie.Need-add-first-repeat
-add-first-repeat c =
-    let a = c .before .before .before .before .args in
-    rw (c .before .before .of .ensures) (omega (arith, record-inside (a .kind) (a .file .now) 1 (omega arith), key-inside (a .kind)))
+spacing-requires : tie.Need-spacing-requires
+spacing-requires c κs =
+    let p = c .before .before .before in
+    first-fits (p .args .kind) (p .args .file .now) (p .pre .0) (search needs)
 
 first-repeat-requires : tie.Need-first-repeat-requires
 first-repeat-requires c κs =
     let a = c .before .before .before .before .args in
-    rw (c .before .before .of .ensures, c .before .count .ensures) (omega arith, key-fits (a .kind) (a .file .now) _ (omega arith))
+    rw (c .spacing .ensures, c .before .count .ensures) (omega arith, key-fits (a .kind) (a .file .now) _ (omega arith))
 
 add-refused-at : tie.Need-add-refused-at
 add-refused-at c = search needs
@@ -39,7 +38,7 @@ returns c =
     let b = c .before .before in
     let n = b .before .before in
     let a = n .before .before .before in
-    let first = rw (n .before .of .ensures, n .count .ensures) at (b .first-repeat .ensures) in
+    let first = rw (b .before .spacing .ensures, n .count .ensures) at (b .first-repeat .ensures) in
     rw (← keys-by (a .args .kind) (a .args .file .now) _ (a .pre .0) first, ← n .count .ensures, lt-ltb _ _ (c .before .if1 .taken), ← n .before .of .ensures) (c .refused-at .ensures)
 
 accepted-requires : tie.Need-accepted-requires
@@ -51,7 +50,7 @@ returns-2 c =
     let b = c .before .before in
     let n = b .before .before in
     let a = n .before .before .before in
-    let first = rw (n .before .of .ensures, n .count .ensures) at (b .first-repeat .ensures) in
+    let first = rw (b .before .spacing .ensures, n .count .ensures) at (b .first-repeat .ensures) in
     rw (← keys-by (a .args .kind) (a .args .file .now) _ (a .pre .0) first, ← n .count .ensures, le-ltb _ _ (c .before .if1 .left)) (c .accepted .ensures)
 
 pub keys-tell-spec : {M : Type 1} → statement M
@@ -61,7 +60,7 @@ keys-tell-spec =
     of-requires
     count-requires
     sub-n
-    add-first-repeat
+    spacing-requires
     first-repeat-requires
     add-refused-at
     refused-at-requires

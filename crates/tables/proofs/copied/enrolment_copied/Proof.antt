@@ -1,7 +1,7 @@
 -- The table holds the rows of `enrolmentCopied`.
 use Rattle.laws.proofs.Parts.{inside}
 use Rattle.tables.specs.Copied.{noItem, among, itemsBut, enrolmentCopied}
-use Rattle.tables.specs.Tables.{dataFront, enrolmentData, eb13Data}
+use Rattle.tables.specs.Tables.{dataFront, enrolmentData, enrolmentRequestData}
 use borrow.Author.Needs.{needs}
 use Rattle.tables.proofs.copied.enrolment_copied.Statement.{statement}
 use Rattle.tables.proofs.copied.enrolment_copied.Tie as tie
@@ -13,7 +13,7 @@ array-copy-out-result : tie.Need-array-copy-out-result
 array-copy-out-result c = search needs
 
 returns : tie.Need-returns
-unfolding enrolmentCopied itemsBut among eb13Data enrolmentData dataFront
+unfolding enrolmentCopied itemsBut among enrolmentRequestData enrolmentData dataFront
 returns c = inside enrolmentCopied (c .before .args .i) _ noItem (c .before .pre)
 
 pub enrolment-copied-spec : {M : Type 1} → statement M

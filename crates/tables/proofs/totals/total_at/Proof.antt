@@ -1,5 +1,5 @@
 -- Each kind by its table.
-use Rattle.tables.specs.Totals.{enrolmentTotals, eb21Totals, eb22Totals}
+use Rattle.tables.specs.Totals.{enrolmentTotals, debitRequestTotals, debitResultTotals}
 use borrow.Author.Needs.{needs}
 use Rattle.tables.proofs.totals.total_at.Statement.{statement}
 use Rattle.tables.proofs.totals.total_at.Tie as tie
@@ -21,16 +21,16 @@ enrolment-total-requires-2 c κs = rw (c .enum-told2 .given .1) at (c .before .b
 enum-told-3 : tie.Need-enum-told-3
 enum-told-3 c = search needs
 
-eb21-total-requires : tie.Need-eb21-total-requires
-unfolding eb21Totals
-eb21-total-requires c κs = rw (c .enum-told3 .given .1) at (c .before .before .pre)
+debit-request-total-requires : tie.Need-debit-request-total-requires
+unfolding debitRequestTotals
+debit-request-total-requires c κs = rw (c .enum-told3 .given .1) at (c .before .before .pre)
 
 enum-told-4 : tie.Need-enum-told-4
 enum-told-4 c = search needs
 
-eb22-total-requires : tie.Need-eb22-total-requires
-unfolding eb22Totals
-eb22-total-requires c κs = rw (c .enum-told4 .given .1) at (c .before .before .pre)
+debit-result-total-requires : tie.Need-debit-result-total-requires
+unfolding debitResultTotals
+debit-result-total-requires c κs = rw (c .enum-told4 .given .1) at (c .before .before .pre)
 
 returns : tie.Need-returns
 returns c = rw (c .before .enum-told .given .1) (c .enrolment-total .ensures)
@@ -39,10 +39,10 @@ returns-2 : tie.Need-returns-2
 returns-2 c = rw (c .before .enum-told2 .given .1) (c .enrolment-total2 .ensures)
 
 returns-3 : tie.Need-returns-3
-returns-3 c = rw (c .before .enum-told3 .given .1) (c .eb21-total .ensures)
+returns-3 c = rw (c .before .enum-told3 .given .1) (c .debit-request-total .ensures)
 
 returns-4 : tie.Need-returns-4
-returns-4 c = rw (c .before .enum-told4 .given .1) (c .eb22-total .ensures)
+returns-4 c = rw (c .before .enum-told4 .given .1) (c .debit-result-total .ensures)
 
 pub total-at-spec : {M : Type 1} → statement M
 total-at-spec =
@@ -53,9 +53,9 @@ total-at-spec =
     enum-told-2
     enrolment-total-requires-2
     enum-told-3
-    eb21-total-requires
+    debit-request-total-requires
     enum-told-4
-    eb22-total-requires
+    debit-result-total-requires
     returns
     returns-2
     returns-3

@@ -1,5 +1,5 @@
 -- Each kind by its table's length.
-use Rattle.tables.specs.Totals.{enrolmentTotals, eb21Totals, eb22Totals}
+use Rattle.tables.specs.Totals.{enrolmentTotals, debitRequestTotals, debitResultTotals}
 use borrow.Author.Needs.{needs}
 use Rattle.tables.proofs.totals.total_count.Statement.{statement}
 use Rattle.tables.proofs.totals.total_count.Tie as tie
@@ -25,11 +25,11 @@ unfolding enrolmentTotals
 returns-2 c = rw (c .enum-told2 .given .1)
 
 returns-3 : tie.Need-returns-3
-unfolding eb21Totals
+unfolding debitRequestTotals
 returns-3 c = rw (c .enum-told3 .given .1)
 
 returns-4 : tie.Need-returns-4
-unfolding eb22Totals
+unfolding debitResultTotals
 returns-4 c = rw (c .enum-told4 .given .1)
 
 pub total-count-spec : {M : Type 1} → statement M

@@ -1,19 +1,16 @@
--- By the pair kind.
+-- By the request's kind.
 use borrow.Author.Needs.{needs}
 use Rattle.terms.proofs.items.agreed.Statement.{statement}
 use Rattle.terms.proofs.items.agreed.Tie as tie
 
-enum-told : tie.Need-enum-told
-enum-told c = search needs
+request-kind-requires : tie.Need-request-kind-requires
+request-kind-requires c κs = search needs
 
-enum-told-2 : tie.Need-enum-told-2
-enum-told-2 c = search needs
+of-requires : tie.Need-of-requires
+of-requires c κs = search needs
 
 returns : tie.Need-returns
-returns c = search needs
-
-returns-2 : tie.Need-returns-2
-returns-2 c = search needs
+returns c = rw (c .of .ensures, c .before .request-kind .ensures)
 
 pub agreed-spec : {M : Type 1} → statement M
-agreed-spec = tie.close (tie.spec enum-told enum-told-2 returns returns-2)
+agreed-spec = tie.close (tie.spec request-kind-requires of-requires returns)

@@ -28,7 +28,7 @@ returns : tie.Need-returns
 unfolding headersTell
 returns c =
     let k = c .before .before .before .before in
-    rw (← k .request-kind .ensures, ← c .before .before .result-kind .ensures, ← c .before .before .before .record-of .ensures .0, ← c .before .record-of2 .ensures .0) (c .items-tell .ensures)
+    rw (c .before .before .before .record-of .ensures .0, c .before .record-of2 .ensures .0, k .request-kind .ensures, c .before .before .result-kind .ensures) at (c .items-tell .ensures)
 
 pub headers-tell-spec : {M : Type 1} → statement M
 headers-tell-spec =

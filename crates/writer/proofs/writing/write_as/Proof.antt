@@ -3,7 +3,7 @@ use Rattle.tables.proofs.Tiling.{size-least}
 use Rattle.kinds.specs.Kinds.{fixedOf}
 use Rattle.making.proofs.Sizes.{body-size, frame-fits}
 use Rattle.writer.proofs.Written.{told-2, told-3, told-8, told-read, told-good}
-use Rattle.writer.specs.Writing.{partsFit, size6, size7}
+use Rattle.writer.specs.Writing.{partsFit}
 use Rattle.making.specs.Records.{headOf}
 use mathlib.Core.Path.{_≡_, refl, _∙_}
 use native.Mathlib.Omega.{arith}
@@ -12,8 +12,8 @@ use Rattle.writer.proofs.writing.write_as.Statement.{statement}
 use Rattle.writer.proofs.writing.write_as.Tie as tie
 
 -- the parts are measured by the kind's own numbers
-fits : (c : tie.After-parts-fit) → c .parts-fit .result ≡ partsFit (headOf (c .before .before .before .before .before .before .before .before .args .date .now) (c .before .before .before .before .before .before .before .before .args .code .now) (c .before .before .before .before .before .before .before .before .args .item6 .now) (c .before .before .before .before .before .before .before .before .args .item7 .now)) (c .before .before .before .before .before .before .before .before .args .bodies .now) (size6 (c .before .before .before .before .before .before .before .before .args .kind)) (size7 (c .before .before .before .before .before .before .before .before .args .kind)) (fixedOf (c .before .before .before .before .before .before .before .before .args .kind) .body)
-fits c = c .parts-fit .ensures ∙ rw (c .before .before .before .before .before .before .before .before .pre .0, c .before .before .before .before .before .before .before .before .pre .1, c .before .of .ensures)
+fits : (c : tie.After-parts-fit) → c .parts-fit .result ≡ partsFit (headOf (c .before .before .before .before .before .before .before .before .args .date .now) (c .before .before .before .before .before .before .before .before .args .code .now) (c .before .before .before .before .before .before .before .before .args .item6 .now) (c .before .before .before .before .before .before .before .before .args .item7 .now)) (c .before .before .before .before .before .before .before .before .args .bodies .now) (fixedOf (c .before .before .before .before .before .before .before .before .args .kind) .item6) (fixedOf (c .before .before .before .before .before .before .before .before .args .kind) .item7) (fixedOf (c .before .before .before .before .before .before .before .before .args .kind) .body)
+fits c = c .parts-fit .ensures ∙ rw (c .before .of .ensures)
 
 of-requires : tie.Need-of-requires
 of-requires c κs = search needs

@@ -1,4 +1,4 @@
--- Each kind by its constructor.
+-- By the form.
 use borrow.Author.Needs.{needs}
 use Rattle.kinds.proofs.of_files.Fixed.of.Statement.{statement}
 use Rattle.kinds.proofs.of_files.Fixed.of.Tie as tie

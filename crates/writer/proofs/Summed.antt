@@ -1,0 +1,88 @@
+-- The sums of the records that are built, one record more at a time.
+-- Assumes nothing.
+use Prim.Native.Nat.{ℕ, zero, suc, _+_, _*_, _≤_, _<_, _^_}
+use mathlib.Core.Bool.{Bool, true, false, cond}
+use mathlib.Core.List.{List, [], _∷_}
+use mathlib.Core.Path.{_≡_, refl, sym, _∙_}
+use mathlib.Core.Logic.{⊎-elim}
+use native.Mathlib.Nat.{le-refl, min-le-left}
+use native.Mathlib.Omega.{arith}
+use lib.Dec.{ltb, eqb}
+use lib.ListN.{length, getD, drop, length-take}
+use Rattle.laws.specs.Part.{part}
+use Rattle.laws.specs.Sum.{sum}
+use Rattle.laws.specs.Tabulate.{tabulate}
+use Rattle.laws.proofs.Bools.{either}
+use Rattle.laws.proofs.Sums.{sum-more, sum-bound, sum-same, sum-zero}
+use Rattle.laws.proofs.Tabs.{tab-at, tab-same}
+use Rattle.kinds.specs.declared.of_files.Kind.{Kind}
+use Rattle.kinds.specs.Kinds.{limit}
+use Rattle.tables.specs.declared.totals.Quantity.{Quantity}
+use Rattle.tables.specs.declared.totals.Quantity.the-variants.{Records, OfKind, Amounts, Marked, AmountsMarked}
+use Rattle.tables.specs.Totals.{noTotal, totalsOf}
+use Rattle.layout.specs.Items.{applicationOf, amountOf, markOf}
+use Rattle.numbers.specs.Numbers.{valueOf}
+use Rattle.numbers.proofs.Values.{value-within}
+use Rattle.records.specs.Quantities.{worth}
+use Rattle.making.specs.Records.{dataBuilt, bodyCount, builtWorth, builtQuantity, builtTotal, builtTotals}
+use Rattle.writer.specs.Writing.{worthFor, worthBuilt, sumTo, sumWith}
+
+tab-within : (f g : ℕ → ℕ) (n : ℕ) → ((j : ℕ) → j < n → f j ≡ g j) → tabulate f n ≡ tabulate g n
+unfolding tabulate
+tab-within f g zero e = refl
+tab-within f g (suc n) e = rw (tab-within f g n (λ j l. e j (omega arith)), e n (le-refl (suc n)))
+
+-- what one record adds is small
+amount-small : (rec : List ℕ) → amountOf rec ≤ 10 ^ 13
+unfolding valueOf part
+amount-small rec = omega (arith, value-within (part 42 13 rec) (length (part 42 13 rec)) 13 (rw (length-take 13 (drop 42 rec)) (min-le-left 13 (length (drop 42 rec)))))
+
+if-small : (b : Bool) (n m : ℕ) → n ≤ m → cond b n 0 ≤ m
+if-small true n m h = h
+if-small false n m h = omega arith
+
+worth-small : (q : Quantity) (rec : List ℕ) → worth q rec ≤ 10 ^ 13
+unfolding worth
+worth-small Records rec = omega arith
+worth-small (OfKind b) rec = if-small (eqb (applicationOf rec) b) 1 (10 ^ 13) (omega arith)
+worth-small Amounts rec = amount-small rec
+worth-small (Marked b) rec = if-small (eqb (markOf rec) b) 1 (10 ^ 13) (omega arith)
+worth-small (AmountsMarked b) rec = if-small (eqb (markOf rec) b) (amountOf rec) (10 ^ 13) (amount-small rec)
+
+module _ (k : Kind) (header bodies : List ℕ) where
+  -- so a sum fits
+  pub sums-small : (i : ℕ) → i ≤ limit → (t : ℕ) → t < 5 → getD (tabulate (sumTo k header bodies i) 5) t 0 ≤ 10 ^ 16
+  unfolding sumTo worthBuilt worthFor
+  sums-small i h t l = rw (tab-at (sumTo k header bodies i) 5 t l) (omega (arith, sum-bound (worthBuilt k header bodies t) (10 ^ 13) i each))
+    where
+      each : (j : ℕ) → worthBuilt k header bodies t j ≤ 10 ^ 13
+      each j = if-small (ltb t (length (totalsOf k))) _ (10 ^ 13) (worth-small (getD (totalsOf k) t noTotal .3) (dataBuilt k header bodies j))
+
+  -- none yet, one more, all of them
+  pub sums-start : (0 ∷ 0 ∷ 0 ∷ 0 ∷ 0 ∷ []) ≡ tabulate (sumTo k header bodies 0) 5
+  unfolding tabulate sumTo sum
+  sums-start = refl
+
+  pub sums-more : (i : ℕ) → tabulate (sumWith k (dataBuilt k header bodies i) (tabulate (sumTo k header bodies i) 5)) 5 ≡ tabulate (sumTo k header bodies (i + 1)) 5
+  unfolding sumWith sumTo worthBuilt
+  sums-more i =
+      tab-within (sumWith k (dataBuilt k header bodies i) (tabulate (sumTo k header bodies i) 5)) (sumTo k header bodies (i + 1)) 5 more
+    where
+      more : (t : ℕ) → t < 5 → getD (tabulate (sumTo k header bodies i) 5) t 0 + worthFor k (dataBuilt k header bodies i) t ≡ sum (worthBuilt k header bodies t) (i + 1)
+      more t l = rw (tab-at (sumTo k header bodies i) 5 t l) (sym (sum-more (worthBuilt k header bodies t) i))
+
+  pub sums-end : tabulate (sumTo k header bodies (bodyCount k bodies)) 5 ≡ builtTotals k header bodies
+  unfolding builtTotals sumTo builtTotal builtQuantity worthBuilt worthFor builtWorth
+  sums-end = tab-same (sumTo k header bodies (bodyCount k bodies)) (builtTotal k header bodies) 5 all
+    where
+      some-total : (t : ℕ) → ltb t (length (totalsOf k)) ≡ true → (i : ℕ) → i < bodyCount k bodies → worthBuilt k header bodies t i ≡ builtWorth k header bodies (getD (totalsOf k) t noTotal .3) i
+      some-total t b i l = rw b
+
+      no-total : (t : ℕ) → ltb t (length (totalsOf k)) ≡ false → (i : ℕ) → i < bodyCount k bodies → worthBuilt k header bodies t i ≡ 0
+      no-total t b i l = rw b
+
+      all : (t : ℕ) → sumTo k header bodies (bodyCount k bodies) t ≡ builtTotal k header bodies t
+      all t =
+          ⊎-elim (λ b. rw b (sum-same (worthBuilt k header bodies t) (builtWorth k header bodies (getD (totalsOf k) t noTotal .3)) (bodyCount k bodies) (some-total t b)))
+          (λ b. rw b (sum-zero (worthBuilt k header bodies t) (bodyCount k bodies) (no-total t b)))
+          (either (ltb t (length (totalsOf k))))
