@@ -14,6 +14,7 @@
  *   answer[3] item    from 1; 0 where there is no place
  *   answer[4] code    the failure code of number 4; else "0000"
  * A refusal leaves all other lent memory as it was.
+ * No function needs more than 64 KB of stack.
  *
  * Numbers: 1 kind or pair unknown, 2 not whole records or fewer than two, 3 more than 430 data records, 4 an item
  * breaks its rule, 5 an item disagrees with the kind or header, 6 a count or sum is wrong, 7 the key of an earlier

@@ -4,8 +4,9 @@
  * after another.
  *   a call:     its number (enum below), and its parameters in the order of cms.h but for the answer: a number as it is,
  *               a slice as its length in bytes and then its bytes
- *   an answer:  0, or what was changed that may not be (`changed` below); what the call returned; and all memory that was
+ *   an answer:  0, or what was changed that may not be (see `changed`); what the call returned; and all memory that was
  *               lent to be written, whole, in the order of the parameters, the answer last
+ *   PAINTED before a call makes it on a stack of its own; how many bytes of that were touched comes after the answer
  * Before all, one number says that the bridge is there.
  *
  * Each slice is lent from a place of its own that ends where no memory may be touched, so a step past its end ends this
@@ -17,7 +18,7 @@
 #include <sys/mman.h>
 #include <unistd.h>
 
-enum { READ, WRITE, PAIR, OUTCOME, WALK, POST, APART, TOUCH };
+enum { READ, WRITE, PAIR, OUTCOME, WALK, POST, APART, TOUCH, DIG, PAINTED };
 
 #define THERE UINT64_C(0x636d735f66616365)
 
@@ -139,15 +140,10 @@ static struct lent *to_write(struct lent *one) {
 }
 
 /* Numbers that no answer has. */
-static uint64_t *an_answer(size_t numbers) {
-    struct lent *one = lend(numbers * sizeof(uint64_t));
-    uint64_t *first = (uint64_t *)(void *)one->start;
+static void an_answer(size_t numbers) {
+    uint64_t *first = (uint64_t *)(void *)lend(numbers * sizeof(uint64_t))->start;
     for (size_t i = 0; i < numbers; i++) first[i] = UINT64_C(0xfeedfacecafe0000) + i;
-    return first;
 }
-
-static uint64_t *numbers_of(const struct lent *one) { return (uint64_t *)(void *)one->start; }
-static size_t count_of(const struct lent *one) { return one->length / sizeof(uint64_t); }
 
 /* 0, or for the i-th slice that was lent, from 0: 2i + 1 where it was changed itself, 2i + 2 where bytes before it were. */
 static uint64_t changed(void) {
@@ -159,76 +155,116 @@ static uint64_t changed(void) {
     return 0;
 }
 
-/* ---- calls */
+/* ---- calls: each is a function of the library with what was lent, in the order of its parameters, and a number or two */
 
-static uint64_t called(void) {
-    switch (number()) {
-    case READ: {
-        uint32_t kind = (uint32_t)number();
-        const struct lent *file = slice();
-        return cms_read(kind, file->start, file->length, an_answer(5));
-    }
-    case WRITE: {
-        uint32_t kind = (uint32_t)number();
-        const struct lent *date = slice(), *code = slice(), *item6 = slice(), *item7 = slice(), *bodies = slice();
-        const struct lent *file = to_write(slice());
-        return cms_write(kind, date->start, date->length, code->start, code->length, item6->start, item6->length,
-                         item7->start, item7->length, bodies->start, bodies->length, file->start, file->length,
-                         an_answer(5));
-    }
-    case PAIR: {
-        uint32_t pair = (uint32_t)number();
-        const struct lent *request = slice(), *result = slice();
-        const struct lent *taken = to_write(slice()), *not_taken = to_write(slice());
-        return cms_pair(pair, request->start, request->length, result->start, result->length, numbers_of(taken),
-                        count_of(taken), numbers_of(not_taken), count_of(not_taken), an_answer(5));
-    }
-    case OUTCOME: {
-        uint32_t pair = (uint32_t)number();
-        const struct lent *request = slice(), *result = slice();
-        uint64_t record = number();
-        return cms_outcome(pair, request->start, request->length, result->start, result->length, record, an_answer(9));
-    }
-    case WALK: {
-        uint32_t kind = (uint32_t)number();
-        const struct lent *file = slice();
-        uint64_t place = number();
-        return cms_walk(kind, file->start, file->length, place, an_answer(8));
-    }
-    case POST: {
-        const struct lent *request = slice(), *result = slice(), *text = to_write(slice());
-        return cms_post(request->start, request->length, result->start, result->length, text->start, text->length);
-    }
-    case APART: {
-        uint32_t kind = (uint32_t)number();
-        const struct lent *file = slice(), *bodies = to_write(slice());
-        return cms_apart(kind, file->start, file->length, bodies->start, bodies->length, an_answer(6));
-    }
-    case TOUCH: { /* Tries the watch: reads the byte at a place from a slice's start, and writes it when told a number. */
-        const struct lent *one = slice();
-        volatile uint8_t *at = one->start + (int64_t)number();
-        uint64_t with = number();
-        uint8_t was = *at;
-        if (with) *at = (uint8_t)with;
-        return was;
-    }
-    default: fail("the bridge was asked for a function that it does not know\n"); return 0;
+typedef uint64_t (*function)(void);
+
+static uint32_t kind;
+static uint64_t given, also;
+
+#define BYTES(i) lent[i].start, lent[i].length
+#define LIST(i) NUMBERS(i), lent[i].length / sizeof(uint64_t)
+#define NUMBERS(i) (uint64_t *)(void *)lent[i].start
+
+static uint64_t call_read(void) { return cms_read(kind, BYTES(0), NUMBERS(1)); }
+static uint64_t call_write(void) {
+    return cms_write(kind, BYTES(0), BYTES(1), BYTES(2), BYTES(3), BYTES(4), BYTES(5), NUMBERS(6));
+}
+static uint64_t call_pair(void) { return cms_pair(kind, BYTES(0), BYTES(1), LIST(2), LIST(3), NUMBERS(4)); }
+static uint64_t call_outcome(void) { return cms_outcome(kind, BYTES(0), BYTES(1), given, NUMBERS(2)); }
+static uint64_t call_walk(void) { return cms_walk(kind, BYTES(0), given, NUMBERS(1)); }
+static uint64_t call_post(void) { return cms_post(BYTES(0), BYTES(1), BYTES(2)); }
+static uint64_t call_apart(void) { return cms_apart(kind, BYTES(0), BYTES(1), NUMBERS(2)); }
+
+/* Tries the watch: reads the byte at a place from a slice's start, and writes it when told a number. */
+static uint64_t call_touch(void) {
+    volatile uint8_t *at = lent[0].start + (int64_t)given;
+    uint8_t was = *at;
+    if (also) *at = (uint8_t)also;
+    return was;
+}
+
+/* Tries the painted stack: takes so many bytes of it, and touches the lowest. */
+static uint64_t call_dig(void) {
+    volatile uint8_t dug[given];
+    dug[0] = 1;
+    return dug[0];
+}
+
+/* Lends what the call says, and tells what is to be called with it. */
+static function prepared(uint64_t which) {
+    if (which != POST && which != TOUCH && which != DIG) kind = (uint32_t)number();
+    switch (which) {
+    case READ: slice(); an_answer(5); return call_read;
+    case WRITE:
+        for (int i = 0; i < 5; i++) slice();
+        to_write(slice()); an_answer(5);
+        return call_write;
+    case PAIR: slice(); slice(); to_write(slice()); to_write(slice()); an_answer(5); return call_pair;
+    case OUTCOME: slice(); slice(); given = number(); an_answer(9); return call_outcome;
+    case WALK: slice(); given = number(); an_answer(8); return call_walk;
+    case POST: slice(); slice(); to_write(slice()); return call_post;
+    case APART: slice(); to_write(slice()); an_answer(6); return call_apart;
+    case TOUCH: slice(); given = number(); also = number(); return call_touch;
+    case DIG: given = number(); return call_dig;
+    default: fail("the bridge was asked for a function that it does not know\n"); return NULL;
     }
 }
 
+/* ---- a painted stack, which ends where no memory may be touched */
+
+static uint64_t *painted;
+#define PAINT UINT64_C(0x7061696e7465643a)
+#define WORDS (LONGEST / sizeof(uint64_t))
+
+static void make_stack(void) {
+    uint8_t *all = mmap(NULL, GUARD + LONGEST, PROT_READ | PROT_WRITE, MAP_PRIVATE | MAP_ANONYMOUS, -1, 0);
+    if (all == MAP_FAILED || mprotect(all, GUARD, PROT_NONE)) fail("the bridge has no memory for a stack\n");
+    painted = (uint64_t *)(void *)(all + GUARD);
+}
+
+/* Calls with another stack, whose top is given, and comes back. */
+uint64_t bridge_on_stack(function call, void *top);
+__asm__(".text\n"
+        ".type bridge_on_stack, @function\n"
+        "bridge_on_stack:\n"
+        "    pushq %rbp\n"
+        "    movq %rsp, %rbp\n"
+        "    movq %rsi, %rsp\n"
+        "    callq *%rdi\n"
+        "    movq %rbp, %rsp\n"
+        "    popq %rbp\n"
+        "    retq\n"
+        ".size bridge_on_stack, . - bridge_on_stack\n");
+
+/* What the call returns, and how many bytes there are from the lowest that it touched to the stack's top. */
+static uint64_t called_on_paint(function call, uint64_t *touched) {
+    for (size_t i = 0; i < WORDS; i++) painted[i] = PAINT + i;
+    uint64_t returned = bridge_on_stack(call, painted + WORDS);
+    size_t untouched = 0;
+    while (untouched < WORDS && painted[untouched] == PAINT + untouched) untouched++;
+    *touched = (WORDS - untouched) * sizeof(uint64_t);
+    return returned;
+}
+
 static void answer_call(void) {
+    uint64_t which = number(), touched = 0;
+    int paint = which == PAINTED;
     lent_count = 0;
-    uint64_t returned = called();
+    function call = prepared(paint ? number() : which);
+    uint64_t returned = paint ? called_on_paint(call, &touched) : call();
     answer_number(changed());
     answer_number(returned);
     for (size_t i = 0; i < lent_count; i++)
         if (!lent[i].before) answer_with(lent[i].start, lent[i].length);
+    if (paint) answer_number(touched);
 }
 
 int main(void) {
     uint8_t *calls = NULL;
     uint64_t length = THERE;
     make_places();
+    make_stack();
     put(&length, sizeof length);
     while (get(&length, sizeof length)) {
         calls = room(calls, length + 1);

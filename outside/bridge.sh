@@ -31,7 +31,8 @@ for folder in $folders; do set -- "$@" -isystem "$folder"; done
 "$tools/bin/clang" --target=x86_64-unknown-linux-gnu -nostdinc "$@" -I include \
     -std=c99 -pedantic -Wall -Wextra -Werror -O2 -fPIE -c outside/bridge.c -o "$bridge.o"
 lib=$tools/lib
-"$tools/bin/ld.lld" -pie --dynamic-linker /lib64/ld-linux-x86-64.so.2 -o "$bridge.new" "$lib/Scrt1.o" "$lib/crti.o" \
+# Every name is bound at the start: else the loader, called when a name is first used, would touch the painted stack.
+"$tools/bin/ld.lld" -pie -z now --dynamic-linker /lib64/ld-linux-x86-64.so.2 -o "$bridge.new" "$lib/Scrt1.o" "$lib/crti.o" \
     "$lib/crtbeginS.o" "$bridge.o" "$archive" "$lib/libc.so.6" "$lib/libc_nonshared.a" "$lib/libgcc.a" "$lib/crtendS.o" \
     "$lib/crtn.o"
 rm "$bridge.o"

@@ -61,6 +61,9 @@ impl fmt::Display for Breach {
 
 // ------------------------------------------------------------------------- calls
 
+/// Stands before a call that is to be made on a painted stack.
+const PAINTED: u64 = 9;
+
 impl Call {
     pub fn of(function: &'static Function) -> Call {
         Call { function, sent: function.number.to_le_bytes().to_vec(), written: 0 }
@@ -96,6 +99,12 @@ impl Call {
         self
     }
 
+    /// The same call on a painted stack: how many bytes of it were touched is one more number, after all that is written.
+    pub fn painted(mut self) -> Call {
+        self.sent.splice(..0, PAINTED.to_le_bytes());
+        self.answer(1)
+    }
+
     /// How many bytes the bridge answers with.
     fn answered(&self) -> usize {
         16 + self.written
@@ -127,6 +136,12 @@ impl Said {
     pub fn numbers(mut self, numbers: &[u64]) -> Said {
         self.written.extend(numbers.iter().flat_map(|number| number.to_le_bytes()));
         self
+    }
+
+    /// Of a painted call: what the call itself said, and how many bytes of the stack it touched.
+    pub fn and_touched(mut self) -> (Said, u64) {
+        let touched = self.written.split_off(self.written.len() - 8);
+        (self, u64::from_le_bytes(touched.try_into().expect("eight bytes")))
     }
 
     /// All that was written, as numbers.
@@ -381,6 +396,35 @@ mod tests {
             }
             assert_eq!(touched(&touch(length, length as i64, b'!')), Some(11), "written");
         }
+    }
+
+    const DIG: Function = Function { number: 8, lent: &[] };
+
+    /// What a call touched itself stands above all that it took of the stack, and is little.
+    #[test]
+    fn what_is_touched_of_a_painted_stack_is_told() {
+        for bytes in [1, 100, 4096, 65_536, 1_000_000] {
+            let (said, touched) =
+                ask(&Call::of(&DIG).number(bytes).painted()).expect("no breach").and_touched();
+            assert_eq!(said, Said::new(1));
+            assert!((bytes..bytes + 100).contains(&touched), "{touched} of {bytes}");
+        }
+    }
+
+    #[test]
+    fn a_painted_stack_ends() {
+        let past = Call::of(&DIG).number((1 << 20) + 1).painted();
+        assert!(matches!(ask(&past), Err(Breach::Died(status)) if status.signal() == Some(11)));
+    }
+
+    /// On a painted stack memory is watched as on any other.
+    #[test]
+    fn a_painted_call_says_what_it_says_unpainted() {
+        let (said, touched) = ask(&touch(27, 3, 0).painted()).expect("no breach").and_touched();
+        assert_eq!(said, Said::new(b'd'.into()));
+        assert!((8..100).contains(&touched), "{touched}");
+        assert_eq!(ask(&touch(27, 3, b'!').painted()), Err(Breach::Changed("the slice")));
+        assert_eq!(ask(&touch(27, -1, b'!').painted()), Err(Breach::Before("the slice")));
     }
 
     /// A queue of 30,000 inputs, one of which is another call, or is said to give something else.

@@ -34,6 +34,14 @@ fn tokens(line: &str) -> Vec<String> {
     spaced.split_whitespace().map(str::to_string).collect()
 }
 
+/// A line `NAME PARAMETERS = BODY`: its name, and the clause.
+fn clause(line: &str) -> (String, Clause) {
+    let words = tokens(line);
+    let equals = words.iter().skip(1).position(|word| word == "=");
+    let equals = 1 + equals.unwrap_or_else(|| panic!("not understood: {line}"));
+    (words[0].clone(), (words[1..equals].to_vec(), words[equals + 1..].to_vec()))
+}
+
 impl Definitions {
     fn of(text: &str) -> Definitions {
         let mut all: BTreeMap<String, Vec<Clause>> = BTreeMap::new();
@@ -54,10 +62,9 @@ impl Definitions {
                 clauses.last_mut().unwrap_or_else(|| panic!("not understood: {line}")).1.append(&mut words);
                 continue;
             }
-            let equals = words.iter().position(|word| word == "=");
-            let equals = equals.unwrap_or_else(|| panic!("not understood: {line}"));
-            assert_eq!(words[0], current, "not understood: {line}");
-            clauses.push((words[1..equals].to_vec(), words[equals + 1..].to_vec()));
+            let (name, clause) = clause(line);
+            assert_eq!(name, current, "not understood: {line}");
+            clauses.push(clause);
         }
         Definitions(all)
     }
@@ -72,13 +79,26 @@ impl Definitions {
         clause
     }
 
+    /// A definition is this line and nothing else.
+    fn is(&self, line: &str) {
+        let (name, clause) = clause(line);
+        assert_eq!(self.only(&name), &clause, "not understood: {name}");
+    }
+
+    /// The words of a list `WORD ∷ WORD ∷ []`.
+    fn list(&self, name: &str) -> Vec<String> {
+        let (parameters, body) = self.only(name);
+        let words: Vec<String> = body.iter().step_by(2).cloned().collect();
+        let marks: Vec<&String> = body.iter().skip(1).step_by(2).collect();
+        assert!(parameters.is_empty() && marks.iter().all(|mark| *mark == "∷"), "not understood: {name}");
+        let Some((end, words)) = words.split_last() else { panic!("not understood: {name}") };
+        assert!(end == "[]" && marks.len() == words.len(), "not understood: {name}");
+        words.to_vec()
+    }
+
     /// The numbers of a list, as codes.
     fn codes(&self, name: &str) -> Vec<String> {
-        let body = &self.only(name).1;
-        let (numbers, marks): (Vec<_>, Vec<_>) = body.iter().partition(|word| word.starts_with("0x"));
-        assert_eq!(marks.len(), numbers.len() + 1, "not understood: {name}");
-        assert!(marks.iter().all(|word| ["∷", "[]"].contains(&word.as_str())), "not understood: {name}");
-        numbers.iter().map(|word| letters(word)).collect()
+        self.list(name).iter().map(|word| letters(word)).collect()
     }
 }
 
@@ -212,33 +232,75 @@ fn table(definitions: &Definitions, body: &[String], given: &Given, least: &str)
     rules
 }
 
+/// A kind: its four letters, its form, and the least amount that may be asked.
+struct Kind {
+    letters: String,
+    form: String,
+    least: String,
+}
+
+/// The kinds of the library, which are those of its list.
+fn kinds_of(definitions: &Definitions) -> Vec<Kind> {
+    definitions.is("own name least = record { name = name; least = least }");
+    definitions.is("kind form o = record { form = form; own = o }");
+    definitions.is("noKind = kind EnrolmentRequest (own 0 0)");
+    let listed = definitions.list("kinds");
+    for (name, clauses) in &definitions.0 {
+        let kind = matches!(&clauses[..], [(_, body)] if body.first().is_some_and(|word| word == "kind"));
+        assert!(!kind || name == "noKind" || listed.contains(name), "not in the list of kinds: {name}");
+    }
+    listed.iter().map(|name| kind_of(definitions, name)).collect()
+}
+
+/// `NAME = kind FORM OWN`, where `OWN = own LETTERS LEAST`.
+fn kind_of(definitions: &Definitions, name: &str) -> Kind {
+    let body = |name: &str, first: &str| match definitions.only(name) {
+        (none, body) if none.is_empty() && body.len() == 3 && body[0] == first => body.clone(),
+        _ => panic!("not understood: {name}"),
+    };
+    let kind = body(name, "kind");
+    let own = body(&kind[2], "own");
+    Kind { letters: letters(&own[1]), form: kind[1].clone(), least: own[2].clone() }
+}
+
 type Records = BTreeMap<(String, String), Vec<Rule>>;
+
+const ROLES: [&str; 3] = ["Header", "Data", "Trailer"];
 
 /// The rules of every record of every kind, the trailer's totals after the other rules of their items.
 fn library(tables: &str, totals: &str, kinds: &str) -> Records {
     let [tables, totals, kinds] = [tables, totals, kinds].map(Definitions::of);
-    let given = Given::new();
+    tables.is("rowsOf k role = rowsFor (k .form) role");
+    totals.is("totalsOf k = totalsFor (k .form)");
+    let kinds = kinds_of(&kinds);
     let mut records = Records::new();
-    for (of, body) in tables.clauses("rowsOf") {
-        let [kind, role] = &of[..] else { panic!("not understood: rowsOf {of:?}") };
-        let fixed = kinds.clauses("fixedOf").iter().find(|(of, _)| of == std::slice::from_ref(kind));
-        let least =
-            fixed.and_then(|(_, body)| body.last()).unwrap_or_else(|| panic!("no numbers of {kind}"));
-        let mut rules = table(&tables, body, &given, least);
-        if role == "Trailer" {
-            let clause = totals.clauses("totalsOf").iter().find(|(of, _)| of == std::slice::from_ref(kind));
-            let (_, body) = clause.unwrap_or_else(|| panic!("no totals of {kind}"));
-            for total in table(&totals, body, &given, least) {
-                let after = rules.iter().rposition(|rule| rule.item == total.item);
-                rules.insert(after.expect("an item with a total") + 1, total);
+    for kind in &kinds {
+        for role in ROLES {
+            let mut rules = rules_of(&tables, "rowsFor", &[&kind.form, role], &kind.least);
+            if role == "Trailer" {
+                for total in rules_of(&totals, "totalsFor", &[&kind.form], &kind.least) {
+                    let after = rules.iter().rposition(|rule| rule.item == total.item);
+                    rules.insert(after.expect("an item with a total") + 1, total);
+                }
             }
+            let record = (kind.letters.clone(), role.to_lowercase());
+            assert!(records.insert(record, rules).is_none(), "twice: {} {role}", kind.letters);
         }
-        assert!(
-            records.insert((kind.clone(), role.to_lowercase()), rules).is_none(),
-            "twice: {kind} {role}"
-        );
+    }
+    for (of, _) in tables.clauses("rowsFor").iter().chain(totals.clauses("totalsFor")) {
+        assert!(kinds.iter().any(|kind| kind.form == of[0]), "no kind has the form {}", of[0]);
+        assert!(of[1..].iter().all(|role| ROLES.contains(&role.as_str())), "not understood: {of:?}");
     }
     records
+}
+
+/// The rules of the one clause of a table that is for this form, or for this form and role.
+fn rules_of(definitions: &Definitions, name: &str, of: &[&str], least: &str) -> Vec<Rule> {
+    let clauses = definitions.clauses(name).iter();
+    let [(_, body)] = clauses.filter(|(one, _)| one == of).collect::<Vec<_>>()[..] else {
+        panic!("not one clause: {name} {}", of.join(" "));
+    };
+    table(definitions, body, &Given::new(), least)
 }
 
 // The documents' side.
@@ -360,14 +422,17 @@ fn code_lists(codes: &str, records: &Records) -> Vec<(String, Vec<String>)> {
 }
 
 const TABLES: &str = "crates/tables/specs/Tables.antt";
+const TOTALS: &str = "crates/tables/specs/Totals.antt";
+const KINDS: &str = "crates/kinds/specs/Kinds.antt";
 
-fn library_with(change: impl Fn(String) -> String) -> Records {
-    let [totals, kinds] = ["crates/tables/specs/Totals.antt", "crates/kinds/specs/Kinds.antt"].map(text);
-    library(&change(text(TABLES)), &totals, &kinds)
+/// The library's rules, were one of its three texts changed so.
+fn library_with(path: &str, change: impl Fn(String) -> String) -> Records {
+    let read = |of: &str| if of == path { change(text(of)) } else { text(of) };
+    library(&read(TABLES), &read(TOTALS), &read(KINDS))
 }
 
 fn library_as_it_is() -> Records {
-    library_with(|tables| tables)
+    library_with(TABLES, |tables| tables)
 }
 
 /// A text with one place of it changed.
@@ -421,19 +486,60 @@ fn a_wrong_item_is_seen() {
     assert_eq!(seen("## EB22: trailer", "## EB23: trailer").len(), 2);
 }
 
-/// A changed table of the library is seen: its rows, and a kind that no page has.
+/// How many records the library and its page have otherwise, were one of the library's texts changed so.
+fn seen(path: &str, from: &str, to: &str) -> usize {
+    let library = library_with(path, |text| changed(&text, from, to));
+    differences(&library, &documented(&text("docs/ITEMS.md"))).len()
+}
+
+/// A changed table of the library is seen: its rows, and which table a record has.
 #[test]
 fn a_changed_table_is_seen() {
-    let documented = documented(&text("docs/ITEMS.md"));
-    let seen = |from: &str, to: &str| {
-        differences(&library_with(|tables| changed(&tables, from, to)), &documented).len()
+    assert_eq!(seen(TABLES, "row 6 42 13 NotZero c0061 ∷", ""), 2);
+    assert_eq!(seen(TABLES, "row 15 129 21 spaces c0089", "row 15 129 21 free c0089"), 2);
+    assert_eq!(seen(TABLES, "row 15 129 21 spaces c0089", "row 15 129 21 spaces c0090"), 2);
+    assert_eq!(seen(TABLES, "row 5 27 6 NameDate c0000", "row 5 27 6 NameDate c0088"), 4);
+    assert_eq!(seen(TABLES, "c0075 = 0x30303735", "c0075 = 0x30303736"), 2);
+    assert_eq!(
+        seen(
+            TABLES,
+            "DebitResult Trailer = debitResultTrailer",
+            "DebitResult Trailer = debitRequestTrailer"
+        ),
+        1
+    );
+    assert_eq!(seen(TOTALS, "total 7 43 13 Amounts ∷", ""), 1);
+    assert_eq!(seen(TOTALS, "(OfKind 0x37)", "(OfKind 0x38)"), 2);
+    assert_eq!(
+        seen(
+            TOTALS,
+            "totalsFor DebitResult = debitResultTotals",
+            "totalsFor DebitResult = debitRequestTotals"
+        ),
+        1
+    );
+}
+
+/// A changed kind is seen: its least amount, its form, its letters, and one that no page has.
+#[test]
+fn a_changed_kind_is_seen() {
+    assert_eq!(seen(KINDS, "own 0x45423231 140", "own 0x45423231 139"), 1);
+    let enrolment = |request: &str, result: &str| {
+        format!("EB13 = kind {request} ownEB13\n\nabbrev pub EB14 : Kind\nEB14 = kind {result} ownEB14\n")
     };
-    assert_eq!(seen("row 6 42 13 NotZero c0061 ∷", ""), 2);
-    assert_eq!(seen("row 15 129 21 spaces c0089", "row 15 129 21 free c0089"), 2);
-    assert_eq!(seen("row 15 129 21 spaces c0089", "row 15 129 21 spaces c0090"), 2);
-    assert_eq!(seen("row 5 27 6 NameDate c0000", "row 5 27 6 NameDate c0088"), 4);
-    assert_eq!(seen("c0075 = 0x30303735", "c0075 = 0x30303736"), 2);
-    assert_eq!(seen("rowsOf EB22 Trailer = eb22Trailer", "rowsOf EB22 Trailer = eb21Trailer"), 1);
+    let forms = ["EnrolmentRequest", "EnrolmentResult"];
+    assert_eq!(seen(KINDS, &enrolment(forms[0], forms[1]), &enrolment(forms[1], forms[0])), 4);
+    assert_eq!(seen(KINDS, "own 0x45423232", "own 0x45423233"), 6);
+    let library = library_with(KINDS, |kinds| {
+        changed(&kinds, "kinds = EB13 ∷", "kinds = EC21 ∷ EB13 ∷") + &new_kind("DebitRequest")
+    });
+    let found = differences(&library, &documented(&text("docs/ITEMS.md")));
+    assert!(found.len() == 3 && found.iter().all(|line| line.starts_with("EC21 ")), "{found:?}");
+}
+
+fn new_kind(form: &str) -> String {
+    let own = "abbrev pub ownEC21 : Own\nownEC21 = own 0x45433231 0\n";
+    format!("{own}abbrev pub EC21 : Kind\nEC21 = kind {form} ownEC21\n")
 }
 
 #[test]
@@ -450,19 +556,39 @@ fn a_wrong_code_is_seen() {
 #[test]
 #[should_panic(expected = "not understood: [\"Passbook\"]")]
 fn a_class_without_words_is_noticed() {
-    library_with(|tables| changed(&tables, "row 9 73 16 passbook", "row 9 73 16 Passbook"));
+    library_with(TABLES, |tables| changed(&tables, "row 9 73 16 passbook", "row 9 73 16 Passbook"));
 }
 
 #[test]
-#[should_panic(expected = "no numbers of EC21")]
-fn a_new_kind_is_noticed() {
-    library_with(|tables| tables + "rowsOf EC21 Header = debitHeader\n");
+#[should_panic(expected = "no kind has the form CardRequest")]
+fn a_form_without_a_kind_is_noticed() {
+    let first = "rowsFor EnrolmentRequest Header =";
+    let more = format!("rowsFor CardRequest Header = debitHeader\n{first}");
+    library_with(TABLES, |tables| changed(&tables, first, &more));
+}
+
+#[test]
+#[should_panic(expected = "not one clause: rowsFor CardRequest Header")]
+fn a_form_without_rows_is_noticed() {
+    library_with(KINDS, |kinds| changed(&kinds, "EB22 = kind DebitResult", "EB22 = kind CardRequest"));
+}
+
+#[test]
+#[should_panic(expected = "not in the list of kinds: EC21")]
+fn a_kind_that_is_not_listed_is_noticed() {
+    library_with(KINDS, |kinds| kinds + &new_kind("DebitRequest"));
+}
+
+#[test]
+#[should_panic(expected = "not understood: rowsOf")]
+fn rows_by_more_than_the_form_are_noticed() {
+    library_with(TABLES, |tables| changed(&tables, "rowsFor (k .form) role", "rowsFor DebitResult role"));
 }
 
 #[test]
 #[should_panic(expected = "not understood: something new")]
 fn a_new_sort_of_line_is_noticed() {
-    library_with(|tables| "something new\n".to_string() + &tables);
+    library_with(TABLES, |tables| "something new\n".to_string() + &tables);
 }
 
 #[test]

@@ -12,3 +12,4 @@ mod items;
 mod itself;
 mod promises;
 mod samples;
+mod stack;

@@ -1,0 +1,75 @@
+//! Good items of data records, and where items stand in a body: a data record without items 1 to 3.
+
+use super::random::Rng;
+use super::texts::{
+    code_text, date_in_time, decimal, digits, free_text, passbook_text, spaces, table_code,
+};
+use crate::layout::{Kind, PairKind};
+
+/// A good value of a data item, by itself.  Items 1 to 3 are not made here.
+pub(super) fn good_item(rng: &mut Rng, kind: Kind, latest: &[u8], item: usize) -> Vec<u8> {
+    match kind.pair() {
+        PairKind::Enrolment => match item {
+            4 => date_in_time(rng, latest),
+            5 => vec![rng.pick(b"137")],
+            6 => code_text(rng, 1, 20),
+            7 => digits(rng, 7),
+            8 | 9 => code_text(rng, 1, 16),
+            11 => code_text(rng, 0, 2),
+            12 => good_result(rng, kind),
+            14 => free_text(rng, 12),
+            _ => spaces(kind.data()[item - 1]),
+        },
+        PairKind::Debit => match item {
+            4 => digits(rng, 7),
+            5 => code_text(rng, 1, 16),
+            6 => decimal(rng.between(140, 1_000_000), 13),
+            7 => code_text(rng, 0, 13),
+            8 => good_result(rng, kind),
+            9 => passbook_text(rng, 16),
+            10 => code_text(rng, 0, 2),
+            11 => code_text(rng, 1, 20),
+            12 => free_text(rng, 5),
+            13 => vec![rng.pick(b"0123456")],
+            14 => free_text(rng, 12),
+            _ => spaces(kind.data()[item - 1]),
+        },
+    }
+}
+
+pub(super) fn good_result(rng: &mut Rng, kind: Kind) -> Vec<u8> {
+    let mut result = vec![b'N'];
+    match kind {
+        Kind::EB13 | Kind::EB21 => return spaces(5),
+        Kind::EB14 => result.extend(table_code(rng)),
+        Kind::EB22 => {
+            result[0] = rng.pick(b"NPP");
+            if result[0] == b'P' && rng.once_in(3) {
+                result.extend(b"    ");
+            } else {
+                result.extend(table_code(rng));
+            }
+        }
+    }
+    result
+}
+
+/// Where an item stands in a body.
+pub fn body_item(kind: Kind, item: usize) -> std::ops::Range<usize> {
+    let lengths = kind.data();
+    let start = lengths[3..item - 1].iter().sum();
+    start..start + lengths[item - 1]
+}
+
+pub(super) fn copy_body_item(kind: Kind, from: &[u8], to: &mut [u8], item: usize) {
+    let place = body_item(kind, item);
+    to[place.clone()].copy_from_slice(&from[place]);
+}
+
+pub(super) fn body_amount(body: &[u8]) -> u64 {
+    body[23..36].iter().fold(0, |n, d| n * 10 + u64::from(d.wrapping_sub(b'0') % 10))
+}
+
+pub(super) fn set_body_amount(body: &mut [u8], amount: u64) {
+    body[23..36].copy_from_slice(&decimal(amount, 13));
+}

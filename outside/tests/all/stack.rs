@@ -1,0 +1,243 @@
+//! How much stack the library needs: every function of the C face, called on a painted stack with the largest inputs,
+//! good ones and ones whose fault is found last, touches no more than include/cms.h says.
+
+use crate::common::put;
+use outside::bridge::{ask, Call};
+use outside::gen::{self, Draft, Rng};
+use outside::layout::{Kind, PairKind, MOST_RECORDS};
+use outside::proved::Parts;
+use std::collections::BTreeMap;
+
+/// The bytes of stack that include/cms.h asks for.
+const MOST: u64 = 65_536;
+const SAID: &str = "No function needs more than 64 KB of stack.";
+
+/// A call, and what it must return so that its input is what it is called.
+struct Case {
+    function: &'static str,
+    input: String,
+    returned: u64,
+    call: Call,
+}
+
+/// A good request of so many records, and a good result with as many.
+fn drafts(rng: &mut Rng, pair: PairKind, n: usize) -> [Draft; 2] {
+    let request = gen::request_of(rng, pair.request(), n);
+    loop {
+        let result = gen::result_of(rng, &request, true);
+        if result.bodies.len() == n {
+            return [request, result];
+        }
+    }
+}
+
+/// Files that are refused, with the number, most of them when all has been read; and the largest good one.
+fn files(kind: Kind, draft: &Draft) -> Vec<(&'static str, u64, Vec<u8>)> {
+    let (good, size) = (draft.file(), kind.record_length());
+    let with = |change: &dyn Fn(&mut Vec<u8>)| {
+        let mut file = good.clone();
+        change(&mut file);
+        file
+    };
+    let last = good.len() - 2 * size;
+    let total = good.len() - size + if kind == Kind::EB22 { 76 } else { 34 };
+    vec![
+        ("the last item is broken", 4, with(&|file| *file.last_mut().expect("a file") = 0x1f)),
+        ("a record of another institution", 5, with(&|file| put(file, last + size + 9, b"9999999999"))),
+        ("a total is wrong", 6, with(&|file| file[total] ^= 1)),
+        (
+            "the last key is there already",
+            7,
+            with(&|file| {
+                file.copy_within(last - size + 9..last, last + 9);
+                gen::mend_totals(kind, file);
+            }),
+        ),
+        ("a byte is missing", 2, with(&|file| file.truncate(file.len() - 1))),
+        ("a record too many", 3, with(&|file| file.extend(&good[..size]))),
+        ("good", 0, good.clone()),
+    ]
+}
+
+/// Results for a request: a good one, and ones that are good by themselves and refused beside the request, with the number.
+fn results(pair: PairKind, request: &Draft, result: &Draft) -> Vec<(&'static str, u64, Vec<u8>)> {
+    let with = |change: &dyn Fn(&mut Draft, &mut Vec<u8>)| {
+        let mut result = result.clone();
+        let mut last = result.bodies.pop().expect("a result of many records");
+        change(&mut result, &mut last);
+        result.bodies.push(last);
+        result.file()
+    };
+    let item = |item: usize| gen::body_item(pair.result(), item);
+    let asked = |last: &[u8]| {
+        let key = |body: &[u8]| pair.key().map(|of| body[item(of)].to_vec());
+        let found = request.bodies.iter().find(|body| key(body) == key(last));
+        found.expect("the request of a result").clone()
+    };
+    let mut all = vec![
+        ("good", 0, result.file()),
+        ("headers differ", 12, with(&|result, _| result.code[9] = b'0' + (result.code[9] - b'0' + 1) % 10)),
+        ("the last result is a stranger's", 13, with(&|_, last| last[item(pair.key_item())].fill(b'Z'))),
+        (
+            "the last result differs in item 14",
+            13,
+            with(&|_, last| {
+                let place = item(14).start;
+                last[place] = if last[place] == b'~' { b'!' } else { b'~' };
+            }),
+        ),
+    ];
+    if pair == PairKind::Debit {
+        let impossible = with(&|_, last| {
+            let amount = asked(last)[item(6)].to_vec();
+            let amount: u64 = String::from_utf8(amount).expect("digits").parse().expect("a number");
+            last[item(6)].copy_from_slice(format!("{:013}", amount + 1).as_bytes());
+        });
+        all.push(("the last amount is impossible", 14, impossible));
+    }
+    all
+}
+
+fn of_one_file(kind: Kind, draft: &Draft) -> Vec<Case> {
+    let mut cases = Vec::new();
+    let number = kind.number();
+    for (what, returned, file) in files(kind, draft) {
+        let input = format!("{kind:?}: {what}");
+        let mut add = |function, input: String, returned, call| {
+            cases.push(Case { function, input, returned, call });
+        };
+        add("cms_read", input.clone(), returned, Call::read(number, &file));
+        for place in [MOST_RECORDS as u64 - 1, MOST_RECORDS as u64] {
+            add("cms_walk", format!("{input}, place {place}"), returned, Call::walk(number, &file, place));
+        }
+        if kind.is_request() {
+            let room = vec![b'?'; MOST_RECORDS * kind.body_length()];
+            add("cms_apart", input.clone(), returned, Call::apart(number, &file, &room));
+            if returned == 0 {
+                let short = Call::apart(number, &file, &room[1..]);
+                add("cms_apart", format!("{input}, too little room"), 8, short);
+            }
+        }
+    }
+    cases
+}
+
+fn of_writing(kind: Kind, draft: &Draft) -> Vec<Case> {
+    let (size, bodies) = (kind.body_length(), draft.bodies.concat());
+    let with = |change: &dyn Fn(&mut Vec<u8>)| {
+        let mut changed = bodies.clone();
+        change(&mut changed);
+        changed
+    };
+    let last = bodies.len() - size;
+    let mut inputs = vec![
+        ("good", 0, bodies.clone()),
+        ("too little room", 8, bodies.clone()),
+        ("the last item is broken", 4, with(&|bodies| *bodies.last_mut().expect("bodies") = b'x')),
+        ("the last key is there already", 7, with(&|bodies| bodies.copy_within(last - size..last, last))),
+        ("a byte is missing", 2, with(&|bodies| bodies.truncate(bodies.len() - 1))),
+        ("a body too many", 3, with(&|other| other.extend(&bodies[..size]))),
+    ];
+    if kind == Kind::EB21 {
+        let amount = gen::body_item(kind, 6);
+        let too_much =
+            with(&|bodies| bodies.chunks_mut(size).for_each(|body| body[amount.clone()].fill(b'9')));
+        inputs.push(("the sum has too many digits", 6, too_much));
+    }
+    let room = vec![b'?'; (MOST_RECORDS + 2) * kind.record_length()];
+    let case = |(what, returned, bodies): (&str, u64, Vec<u8>)| {
+        let Draft { date, code, item6, item7, .. } = draft;
+        let parts = Parts { date, code, item6, item7, bodies: &bodies };
+        let call = Call::write(kind.number(), &parts, &room[usize::from(returned == 8)..]);
+        Case { function: "cms_write", input: format!("{kind:?}: {what}"), returned, call }
+    };
+    inputs.into_iter().map(case).collect()
+}
+
+fn of_two_files(pair: PairKind, request: &Draft, result: &Draft) -> Vec<Case> {
+    let mut inputs: Vec<(String, u64, Vec<u8>, Vec<u8>)> = Vec::new();
+    for (what, returned, file) in results(pair, request, result) {
+        inputs.push((what.to_string(), returned, request.file(), file));
+    }
+    for (what, returned, file) in files(pair.request(), request).into_iter().filter(|one| one.1 != 0) {
+        inputs.push((format!("request: {what}"), returned, file, result.file()));
+    }
+    for (what, returned, file) in files(pair.result(), result).into_iter().filter(|one| one.1 != 0) {
+        inputs.push((format!("result: {what}"), returned, request.file(), file));
+    }
+    let mut cases = Vec::new();
+    for (what, returned, request, result) in inputs {
+        let input = format!("{pair:?}: {what}");
+        let mut add = |function, input: String, returned, call| {
+            cases.push(Case { function, input, returned, call });
+        };
+        let (number, list) = (pair.number(), [7; MOST_RECORDS]);
+        let whole = Call::pair(number, &request, &result, &list, &list);
+        add("cms_pair", input.clone(), returned, whole);
+        for record in [1, MOST_RECORDS as u64] {
+            let one = Call::outcome(number, &request, &result, record);
+            add("cms_outcome", format!("{input}, record {record}"), returned, one);
+        }
+        if returned == 0 {
+            let short = Call::pair(number, &request, &result, &list, &list[1..]);
+            add("cms_pair", format!("{input}, a list too short"), 8, short);
+            let none = Call::outcome(number, &request, &result, MOST_RECORDS as u64 + 1);
+            add("cms_outcome", format!("{input}, record {}", MOST_RECORDS + 1), 15, none);
+        }
+        if pair == PairKind::Debit {
+            let text = outside::post(&request, &result);
+            let lines = text.iter().filter(|&&byte| byte == b'\n').count();
+            assert_eq!(lines > MOST_RECORDS, returned == 0, "a line for each request, and the sums");
+            add("cms_post", input.clone(), text.len() as u64, Call::post(&request, &result, &text));
+            add("cms_post", format!("{input}, a short text"), 0, Call::post(&request, &result, &text[1..]));
+        }
+    }
+    cases
+}
+
+fn all_cases() -> Vec<Case> {
+    let mut rng = Rng::new(outside::settings::seed());
+    let mut cases = Vec::new();
+    for pair in PairKind::ALL {
+        let [request, result] = drafts(&mut rng, pair, MOST_RECORDS);
+        cases.extend(of_one_file(pair.request(), &request));
+        cases.extend(of_one_file(pair.result(), &result));
+        cases.extend(of_writing(pair.request(), &request));
+        cases.extend(of_two_files(pair, &request, &result));
+    }
+    cases
+}
+
+/// The functions that the header declares.
+fn declared(header: &str) -> Vec<&str> {
+    let words = header.lines().filter_map(|line| line.strip_prefix("uint64_t "));
+    let mut names: Vec<&str> = words.filter_map(|line| line.split('(').next()).collect();
+    names.sort();
+    names
+}
+
+#[test]
+fn no_function_needs_more_stack_than_the_header_says() {
+    let mut deepest: BTreeMap<&str, (u64, String)> = BTreeMap::new();
+    for Case { function, input, returned, call } in all_cases() {
+        let plain = ask(&call).unwrap_or_else(|breach| panic!("{function}, {input}: {breach}"));
+        let painted = ask(&call.painted()).unwrap_or_else(|breach| panic!("{function}, {input}: {breach}"));
+        let (said, touched) = painted.and_touched();
+        assert_eq!(said.returned, returned, "{function}, {input}");
+        assert!(said == plain, "{function}, {input}: another answer on another stack");
+        println!("{function:11} {touched:6} {input}");
+        let most = deepest.entry(function).or_default();
+        if touched > most.0 {
+            *most = (touched, input);
+        }
+    }
+    println!("\nthe most of each:");
+    for (function, (touched, input)) in &deepest {
+        println!("{function:11} {touched:6} {input}");
+    }
+    let header = include_str!("../../../include/cms.h");
+    assert!(header.contains(SAID), "include/cms.h does not say: {SAID}");
+    assert_eq!(deepest.keys().copied().collect::<Vec<_>>(), declared(header), "every function");
+    let over: Vec<_> = deepest.iter().filter(|(_, (touched, _))| *touched > MOST).collect();
+    assert!(over.is_empty(), "more than {MOST} bytes of stack: {over:?}");
+}
