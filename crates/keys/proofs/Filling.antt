@@ -3,17 +3,17 @@
 use Prim.Native.Nat.{ℕ, _-_, _%_, _≤_, _<_, zero-le}
 use mathlib.Core.Bool.{true, false}
 use mathlib.Core.List.{List}
-use mathlib.Core.Path.{_≡_, refl, sym, _∙_}
+use mathlib.Core.Path.{_≡_, sym, _∙_}
 use mathlib.Core.Logic.{⊎-elim}
 use native.Mathlib.Nat.{le-refl, eq-or-lt-of-le}
 use native.Mathlib.Omega.{arith}
-use borrow.Author.Tests.{eq-eqb, ne-eqb, eqb-true, eqb-false}
+use borrow.Author.Tests.{eq-eqb, eqb-true, eqb-false}
 use lib.Dec.{eqb}
 use lib.ListN.{length, getD, set, replicate, getD-replicate, length-replicate}
 use lib.Seq.{getD-set-same, getD-set-other, ext-getD}
 use Rattle.laws.specs.Tabulate.{tabulate}
 use Rattle.laws.proofs.Bools.{either}
-use Rattle.laws.proofs.Leasts.{Least, least-is, least-only}
+use Rattle.laws.proofs.Leasts.{least-is, least-only}
 use Rattle.laws.proofs.Tabs.{tab-at, tab-length}
 use Rattle.keys.specs.Hashes.{goesTo, slotAt, slotsOf}
 

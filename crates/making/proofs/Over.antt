@@ -10,10 +10,10 @@ use native.Mathlib.Numerals.{add-one}
 use native.Mathlib.Omega.{arith}
 use borrow.Author.Tests.{leb-true, ltb-true, le-leb, lt-ltb, le-ltb, ltb-false, eqb-true}
 use lib.Dec.{leb, ltb, eqb}
-use lib.ListN.{length, getD, List·getD-eq-default}
+use lib.ListN.{length, getD}
 use Rattle.laws.specs.Least.{further, least, none}
 use Rattle.laws.proofs.Bools.{and-left, and-right, or-cases, either}
-use Rattle.laws.proofs.Leasts.{Least, least-is, least-none, least-some, least-stop, none-each}
+use Rattle.laws.proofs.Leasts.{least-is, least-none, least-some, least-stop, none-each}
 use Rattle.kinds.specs.declared.of_files.Kind.{Kind}
 use Rattle.kinds.specs.declared.of_files.Role.{Role}
 use Rattle.kinds.specs.declared.of_files.Role.the-variants.{Data}

@@ -21,7 +21,7 @@ use Rattle.tables.proofs.Fronts.{front-row, front-some}
 use Rattle.kinds.proofs.Known.{one-name}
 use Rattle.tables.proofs.Tiling.{size-least}
 use Rattle.layout.specs.Rules.{meets, holds}
-use Rattle.records.specs.Records.{recordOf, recordAt, countOf}
+use Rattle.records.specs.Records.{recordOf, recordAt}
 use Rattle.records.proofs.Places.{record-inside}
 use Rattle.reader.specs.Judged.{roleOf}
 use Rattle.reader.specs.Meets.{Meets}

@@ -20,9 +20,9 @@ use Rattle.kinds.specs.declared.of_files.Role.the-variants.{Data, Trailer}
 use Rattle.kinds.specs.Kinds.{fixedOf, limit}
 use Rattle.tables.specs.declared.totals.Quantity.{Quantity}
 use Rattle.tables.specs.Totals.{noTotal, totalsOf}
-use Rattle.answers.specs.Answers.{firstTold, _then_}
+use Rattle.answers.specs.Answers.{_then_}
 use Rattle.answers.proofs.Refusals.{number-of, then-second}
-use Rattle.records.specs.Records.{recordAt, recordOf, countOf, dataOf}
+use Rattle.records.specs.Records.{recordAt, recordOf, countOf}
 use Rattle.records.specs.Quantities.{worth, worthAt, quantityOf}
 use Rattle.keys.specs.Keys.{sharesIn, repeatsIn}
 use Rattle.keys.specs.Stands.{keyIn, Inside}
@@ -33,7 +33,7 @@ use Rattle.reader.specs.Keys.{keyAt, sharesKey, repeats, repeatTold, keysTell}
 use Rattle.reader.specs.Reading.{readAs}
 use Rattle.reader.proofs.Lengths.{good-length}
 use Rattle.reader.proofs.Places.{key-inside}
-use Rattle.making.specs.Records.{Head, headerBuilt, dataBuilt, bodyCount, builtWorth, builtQuantity, builtTotal, builtTotals, trailerBuilt}
+use Rattle.making.specs.Records.{Head, headerBuilt, bodyCount, builtWorth, builtQuantity, builtTotal, builtTotals, trailerBuilt}
 use Rattle.making.specs.Files.{frontOf, fileOf}
 use Rattle.making.proofs.Bodies.{body-inside, built-part}
 use Rattle.making.proofs.Built.{file-length}

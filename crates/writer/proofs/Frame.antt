@@ -1,9 +1,9 @@
 -- A frame of three records: the header in front, and what is stored behind it.
 -- Assumes nothing.
-use Prim.Native.Nat.{ℕ, _+_, _*_, _≤_, _<_}
+use Prim.Native.Nat.{ℕ, _+_, _*_, _≤_}
 use mathlib.Core.List.{List, _++_, append-assoc}
-use mathlib.Core.Path.{_≡_, sym, _∙_, ap}
-use native.Mathlib.Nat.{le-of-eq, le-trans, zero-mul, mul-le-mul-left, le-div-iff-mul-le}
+use mathlib.Core.Path.{_≡_, _∙_, ap}
+use native.Mathlib.Nat.{le-of-eq, zero-mul, le-div-iff-mul-le}
 use native.Mathlib.Omega.{arith}
 use lib.ListN.{length, take, drop, length-append}
 use lib.Seq.{take-all, length-take-le}
@@ -12,7 +12,7 @@ use Rattle.laws.proofs.Parts.{part-take}
 use Rattle.kinds.specs.declared.of_files.Kind.{Kind}
 use Rattle.kinds.specs.Kinds.{fixedOf}
 use Rattle.records.specs.Records.{recordAt, recordOf, countOf}
-use Rattle.records.proofs.Places.{record-inside, size-pos}
+use Rattle.records.proofs.Places.{size-pos}
 use Rattle.making.specs.Files.{stored}
 use Rattle.making.proofs.Sizes.{size-most}
 use Rattle.making.proofs.Stores.{part-front, part-behind}

@@ -2,24 +2,18 @@
 -- Assumes nothing.
 use Prim.Native.Nat.{ℕ, zero, suc, _+_, _-_, _*_, _^_, _≤_, _<_}
 use mathlib.Core.Bool.{true}
-use mathlib.Core.List.{List, _++_}
+use mathlib.Core.List.{List}
 use mathlib.Core.Path.{_≡_, refl, sym, _∙_, ap}
 use mathlib.Core.Logic.{⊎-elim}
-use native.Mathlib.Nat.{suc-mul, add-comm, add-zero}
-use native.Mathlib.Numerals.{add-one}
 use native.Mathlib.Omega.{arith}
 use borrow.Author.Tests.{eq-eqb, ne-eqb, lt-ltb, le-leb, ltb-true, ltb-false, leb-true}
 use lib.Dec.{leb, ltb}
-use lib.ListN.{length, getD, length-append}
-use lib.Seq.{ext-getD, take-all}
-use Rattle.laws.specs.Joined.{joined}
+use lib.ListN.{length, getD}
+use lib.Seq.{ext-getD}
 use Rattle.laws.specs.Least.{further, least, none}
 use Rattle.laws.specs.Part.{part}
-use Rattle.laws.specs.Sum.{sum}
 use Rattle.laws.proofs.Bools.{either, clash}
-use Rattle.laws.proofs.Joins.{joined-length}
 use Rattle.laws.proofs.Parts.{part-length, part-at}
-use Rattle.laws.proofs.Sums.{sum-same}
 use Rattle.laws.proofs.Tabs.{tab-at}
 use Rattle.numbers.specs.Numbers.{valueOf, says, digitsOf}
 use Rattle.numbers.proofs.Values.{digits-length, digits-are, value-digits, value-size}
@@ -29,27 +23,25 @@ use Rattle.kinds.specs.declared.of_files.Form.the-variants.{EnrolmentRequest, E
 use Rattle.kinds.specs.declared.of_files.Own.{Own}
 use Rattle.kinds.specs.declared.of_files.Role.the-variants.{Trailer}
 use Rattle.tables.specs.declared.rows.Row.{Row}
-use Rattle.tables.specs.declared.totals.Quantity.{Quantity}
 use Rattle.tables.specs.declared.totals.Total.{Total}
 use Rattle.kinds.specs.Kinds.{kind, fixedFor, fixedOf}
 use Rattle.tables.specs.Rows.{blank}
 use Rattle.tables.specs.Tables.{trailerFront, enrolmentTrailer, enrolmentRequestTrailer, debitRequestTrailer, rowsOf}
 use Rattle.tables.specs.Totals.{noTotal, enrolmentTotals, debitRequestTotals, debitResultTotals, totalsFor, totalsOf}
 use Rattle.records.specs.Records.{recordOf, trailerOf}
-use Rattle.records.specs.Quantities.{worth, worthAt, quantityOf}
+use Rattle.records.specs.Quantities.{quantityOf}
 use Rattle.reader.specs.Totals.{totalHolds}
 use Rattle.reader.specs.Meets.{totalAt}
 use Rattle.making.specs.Bytes.{fillBy}
-use Rattle.making.specs.Records.{Head, headerBuilt, bodyCount, dataBuilt, builtWorth, builtQuantity, builtTotal, builtTotals, totalIs, totalFor, trailerFill, trailerByte, trailerBuilt}
-use Rattle.making.specs.Files.{frontOf, fileOf}
-use Rattle.making.proofs.Lengths.{header-length, data-length, trailer-length}
+use Rattle.making.specs.Records.{Head, headerBuilt, builtQuantity, builtTotal, builtTotals, totalIs, totalFor, trailerFill, trailerByte, trailerBuilt}
+use Rattle.making.specs.Files.{fileOf}
+use Rattle.making.proofs.Lengths.{trailer-length}
 use Rattle.making.proofs.Over.{starts, endsPast, starts-over}
 use Rattle.making.proofs.Rows.{totals-few}
-use Rattle.making.proofs.Stores.{part-behind}
 use Rattle.kinds.proofs.Forms.{of-form}
 use Rattle.laws.proofs.Every.{every, every-at}
 use Rattle.writer.proofs.Built.{file-trailer, file-quantity}
-use Rattle.writer.proofs.Taken.{file-count, file-data}
+use Rattle.writer.proofs.Taken.{file-count}
 
 -- w digits of a number say it exactly when it has no more
 pub says-within : (w n : ℕ) → w ≤ 19 → says (digitsOf w n) n ≡ ltb n (10 ^ w)

@@ -2,7 +2,7 @@
 use Prim.Native.Nat.{_-_, _≤_, _<_, zero-le}
 use Rattle.keys.proofs.Filling.{Filled, filled-start, filled-more, filled-end}
 use lib.ListN.{length, length-set, length-replicate}
-use mathlib.Core.Path.{_≡_, refl, _∙_, ap}
+use mathlib.Core.Path.{_≡_, refl}
 use native.Mathlib.Nat.{le-antisymm, le-refl}
 use native.Mathlib.Omega.{arith}
 use borrow.Author.Needs.{needs}

@@ -6,7 +6,7 @@ use Rattle.kinds.specs.Kinds.{noKind, kinds, nameIs, kindFrom, kindOf}
 use borrow.Author.Needs.{needs}
 use borrow.Author.Tests.{eq-eqb, ne-eqb, lt-ltb}
 use lib.ListN.{length, getD}
-use mathlib.Core.Path.{_≡_, sym}
+use mathlib.Core.Path.{_≡_}
 use native.Mathlib.Nat.{le-antisymm}
 use Rattle.kinds.proofs.of_files.kind_of.Statement.{statement}
 use Rattle.kinds.proofs.of_files.kind_of.Tie as tie

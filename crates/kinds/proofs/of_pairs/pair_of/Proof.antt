@@ -6,7 +6,7 @@ use Rattle.kinds.specs.Pairs.{noPair, pairs, requestIs, pairFrom, pairOf
 use borrow.Author.Needs.{needs}
 use borrow.Author.Tests.{eq-eqb, ne-eqb, lt-ltb}
 use lib.ListN.{length, getD}
-use mathlib.Core.Path.{_≡_, sym}
+use mathlib.Core.Path.{_≡_}
 use native.Mathlib.Nat.{le-antisymm}
 use Rattle.kinds.proofs.of_pairs.pair_of.Statement.{statement}
 use Rattle.kinds.proofs.of_pairs.pair_of.Tie as tie

@@ -9,7 +9,7 @@ use Rattle.making.specs.Records.{dataByte, dataBuilt}
 use borrow.Author.Needs.{needs}
 use lib.ListN.{length, take, length-set}
 use mathlib.Core.List.{[]}
-use mathlib.Core.Path.{_≡_, refl, sym, _∙_}
+use mathlib.Core.Path.{_≡_, refl}
 use native.Mathlib.Nat.{le-antisymm}
 use native.Mathlib.Omega.{arith}
 use Rattle.making.proofs.building.fill_data.Statement.{statement}

@@ -6,7 +6,6 @@ use Rattle.laws.proofs.Tabs.{tab-start, tab-more, tab-end}
 use Rattle.laws.specs.Tabulate.{tabulate}
 use Rattle.making.proofs.Over.{Ended, ended-none, ended-place, ended-row, walk-inside, walk-row}
 use Rattle.making.proofs.Rows.{laid-small}
-use Rattle.making.proofs.Sizes.{size-most}
 use Rattle.making.specs.Records.{trailerByte, trailerBuilt}
 use Rattle.rows.specs.Laid.{most}
 use borrow.Author.Needs.{needs}

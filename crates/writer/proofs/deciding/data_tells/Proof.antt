@@ -1,5 +1,5 @@
 -- The loop looks for the first record that breaks a row, and sums up those before it.
-use Prim.Native.Nat.{_≤_, _-_, _*_, _^_}
+use Prim.Native.Nat.{_≤_, _-_}
 use Rattle.answers.proofs.Refusals.{So-far, told-more, told-stop, told-end, number-of}
 use Rattle.laws.proofs.Leasts.{least-start}
 use Rattle.laws.specs.Tabulate.{tabulate}
@@ -9,7 +9,7 @@ use Rattle.writer.proofs.Summed.{sums-start, sums-more, sums-small}
 use Rattle.writer.specs.Writing.{dataTold, sumTo}
 use borrow.Author.Needs.{needs}
 use lib.ListN.{length}
-use mathlib.Core.Path.{_≡_, refl, sym, _∙_, ap}
+use mathlib.Core.Path.{_≡_, refl, sym, _∙_}
 use native.Mathlib.Nat.{le-antisymm}
 use native.Mathlib.Omega.{arith}
 use Rattle.writer.proofs.deciding.data_tells.Statement.{statement}

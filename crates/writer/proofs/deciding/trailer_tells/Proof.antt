@@ -1,13 +1,12 @@
 -- The trailer stands behind, and is judged against the header; then its totals.
 use Rattle.answers.proofs.Refusals.{number-of, then-first, then-second}
-use Rattle.kinds.specs.Kinds.{fixedOf}
 use Rattle.making.proofs.Lengths.{trailer-length}
 use Rattle.making.proofs.Sizes.{size-most}
 use Rattle.making.specs.Records.{trailerBuilt}
 use Rattle.records.specs.Records.{recordOf, countOf}
 use Rattle.tables.proofs.Tiling.{size-least}
 use Rattle.writer.proofs.Frame.{frame-count, front-take, stored-there, stored-front}
-use Rattle.writer.specs.Writing.{trailerTold, sumsTold}
+use Rattle.writer.specs.Writing.{trailerTold}
 use mathlib.Core.List.{List}
 use mathlib.Core.Path.{_≡_, refl, sym, _∙_, ap}
 use native.Mathlib.Omega.{arith}
