@@ -1,37 +1,24 @@
 -- The bodies of any file, handed out one by one and stored one behind the other.
 -- Assumes nothing.
-use Prim.Native.Nat.{ℕ, _+_, _-_, _*_, _≤_, _<_}
-use mathlib.Core.List.{List, [], _++_, append-assoc, append-nil}
-use mathlib.Core.Path.{_≡_, sym, _∙_}
-use native.Mathlib.Nat.{le-refl, le-trans, mul-le-mul, sub-le, div-mul-le-self, suc-mul, zero-mul}
+use Prim.Native.Nat.{ℕ, _+_, _*_, _≤_, _<_}
+use mathlib.Core.List.{List, [], _++_}
+use mathlib.Core.Path.{_≡_, _∙_}
+use native.Mathlib.Nat.{le-trans, mul-le-mul, sub-le, div-mul-le-self, suc-mul, zero-mul}
 use native.Mathlib.Numerals.{add-one}
 use native.Mathlib.Omega.{arith}
 use borrow.Author.Tests.{lt-ltb, le-ltb}
-use lib.ListN.{length, take, drop, length-drop, drop-of-length-le}
-use lib.Seq.{take-length, drop-drop}
+use lib.ListN.{length, drop}
 use Rattle.laws.specs.Joined.{joined}
 use Rattle.laws.proofs.Joins.{sized-length, size-below, joined-start, joined-more}
-use Rattle.laws.proofs.Parts.{rest}
 use Rattle.kinds.specs.declared.of_files.Kind.{Kind}
 use Rattle.kinds.specs.Kinds.{fixedOf}
 use Rattle.records.specs.Records.{countOf, dataOf}
-use Rattle.making.specs.Files.{stored}
-use Rattle.making.proofs.Sizes.{body-size}
-use Rattle.making.proofs.Stores.{store-next}
+use Rattle.laws.specs.Stored.{stored}
+use Rattle.builder.proofs.Sizes.{body-size}
+use Rattle.builder.proofs.Stores.{store-next}
 use Rattle.writer.specs.Apart.{bodyAt}
 use Rattle.writer.proofs.Taken.{bodies-sized}
 use Rattle.apart.specs.Taking.{bodyOf}
-
--- all from a place on, with something copied to its front, is what is stored at the place
-pub copied :
-    (at : ℕ) (x room last : List ℕ) → last ≡ take (length x) x ++ drop (length x) (take (length room - at) (drop at room)) →
-    take at room ++ (last ++ drop (length room - at) (drop at room)) ≡ stored at x room
-copied at x room last e =
-    rw (e, take-length x, rest at room, drop-drop (length x) at room, none, append-nil)
-    (sym (append-assoc (take at room) x (drop (at + length x) room)))
-  where
-    none : drop (length room - at) (drop at room) ≡ []
-    none = drop-of-length-le (drop at room) {i = length room - at} (rw length-drop (le-refl (length room - at)))
 
 module _ (k : Kind) (s : List ℕ) where
   -- a body is handed out where there is such a record

@@ -14,7 +14,7 @@ use Rattle.kinds.specs.declared.of_files.Kind.{Kind}
 use Rattle.kinds.specs.declared.of_files.Named.{Named}
 use Rattle.kinds.specs.declared.of_files.Named.the-variants.{Is, Unknown}
 use Rattle.answers.specs.declared.told.Answer.{Answer}
-use Rattle.answers.specs.Answers.{accepted, refused, refuses}
+use Rattle.answers.specs.Answers.{accepted, refuses}
 use Rattle.answers.proofs.Refusals.{number-of, refuses-zero, refuses-other}
 use Rattle.reader.specs.Reading.{readAs, readOf}
 use Rattle.reader.proofs.Accepted.{read-named, read-zero}

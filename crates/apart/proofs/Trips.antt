@@ -8,8 +8,8 @@ use lib.Seq.{take-at}
 use Rattle.kinds.specs.declared.of_files.Kind.{Kind}
 use Rattle.answers.specs.Answers.{accepted}
 use Rattle.answers.proofs.Refusals.{number-of}
-use Rattle.making.specs.Records.{Head}
-use Rattle.making.specs.Files.{fileOf}
+use Rattle.builder.specs.Records.{Head}
+use Rattle.builder.specs.Files.{fileOf}
 use Rattle.writer.specs.Writing.{writeOf}
 use Rattle.writer.specs.Apart.{headIn, bodiesIn}
 use Rattle.writer.specs.Says.{Bytes, Wrote}

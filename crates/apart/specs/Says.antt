@@ -8,8 +8,8 @@ use Rattle.kinds.specs.declared.of_files.Named.the-variants.{Is, Unknown}
 use Rattle.answers.specs.declared.told.Answer.{Answer}
 use Rattle.answers.specs.Answers.{accepted, refused}
 use Rattle.reader.specs.Reading.{readOf}
-use Rattle.making.specs.Records.{Head, headOf}
-use Rattle.making.specs.Files.{fileOf}
+use Rattle.builder.specs.Records.{Head, headOf}
+use Rattle.builder.specs.Files.{fileOf}
 use Rattle.writer.specs.Writing.{writeOf, roomAfter}
 use Rattle.kinds.specs.Kinds.{requestOf}
 use Rattle.writer.specs.Apart.{headIn, bodiesIn}

@@ -5,7 +5,6 @@ ghost use Prim.Native.Nat.{_+_, _*_, _≤_};
 ghost use lib.ListN.{length, drop};
 ghost use Rattle.kinds.specs.Kinds.{fixedOf};
 ghost use Rattle.records.specs.Records.{dataOf};
-ghost use Rattle.making.specs.Files.{stored};
 ghost use Rattle.writer.specs.Apart.{bodiesIn};
 ghost use Rattle.apart.specs.Taking.{apartAs, storedAs, taken, atFront, apartOf, apartAfter};
 use crate::taking;
@@ -16,19 +15,12 @@ use kinds::of_files::Kind;
 use kinds::of_files::Named;
 use reader::reading;
 use records::listed;
+use text::parts;
 
 // The answer, and how many bytes the bodies are together; none when refused.
 pub struct Taken {
     pub answer: Answer,
     pub size: usize,
-}
-
-// Stores bytes at a place of the room.
-fn put(room: &mut [u8], at: usize, bytes: &[u8])
-    requires { ⌜ at + length (now bytes) ≤ length (now room) ⌝ }
-    ensures { λ _. ⌜ now (room .exit) ≡ stored at (now (bytes .entry)) (now (room .entry)) ⌝ }
-{
-    bytes::copy(bytes, &mut room[at..]);
 }
 
 // Stores the bodies one behind the other at the front of the room.
@@ -40,7 +32,7 @@ fn store(kind: Kind, file: &[u8], n: usize, room: &mut [u8])
     let size = Fixed::of(kind).body;
     let mut i = 0;
     while i < n {
-        put(room, i * size, taking::body(kind, file, i));
+        parts::put(room, i * size, taking::body(kind, file, i));
         i += 1;
     }
 }

@@ -1,7 +1,7 @@
 // Writing a request file.
 ghost use mathlib.Core.Path.{_≡_};
 ghost use lib.ListN.{length};
-ghost use Rattle.making.specs.Records.{headOf};
+ghost use Rattle.builder.specs.Records.{headOf};
 ghost use Rattle.writer.specs.Writing.{writeOf, roomAfter};
 ghost use Rattle.cms.specs.Face.{five};
 use crate::telling;

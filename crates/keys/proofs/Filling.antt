@@ -9,9 +9,8 @@ use native.Mathlib.Nat.{le-refl, eq-or-lt-of-le}
 use native.Mathlib.Omega.{arith}
 use borrow.Author.Tests.{eq-eqb, eqb-true, eqb-false}
 use lib.Dec.{eqb}
-use lib.ListN.{length, getD, set, replicate, getD-replicate, length-replicate}
+use lib.ListN.{length, getD, set, replicate, getD-replicate}
 use lib.Seq.{getD-set-same, getD-set-other, ext-getD}
-use Rattle.laws.specs.Tabulate.{tabulate}
 use Rattle.laws.proofs.Bools.{either}
 use Rattle.laws.proofs.Leasts.{least-is, least-only}
 use Rattle.laws.proofs.Tabs.{tab-at, tab-length}
@@ -27,8 +26,8 @@ module _ (numbers : List ℕ) (n count : ℕ) where
   abbrev pub Filled : ℕ → List ℕ → Type 0
   Filled i slots = (b : ℕ) → b < count → Seen numbers n count i b (getD slots b 0)
 
-  pub filled-start : Filled n (replicate count n)
-  filled-start b h = rw (getD-replicate count b n 0 h) (record { within = le-refl n; holds = λ l. absurd (omega arith); before = λ k g l. absurd (omega arith) })
+  pub filled-start : (slots : List ℕ) → slots ≡ replicate count n → Filled n slots
+  filled-start slots e b h = rw (e, getD-replicate count b n 0 h) (record { within = le-refl n; holds = λ l. absurd (omega arith); before = λ k g l. absurd (omega arith) })
 
   pub filled-more :
       (slots : List ℕ) (i b : ℕ) → 0 < i → i ≤ n → b ≡ getD numbers (i - 1) 0 % count → b < length slots →
@@ -61,10 +60,3 @@ module _ (numbers : List ℕ) (n count : ℕ) where
           let s = q b h in
           least-only (goesTo numbers count b) n _ _ (record { within = s .within; holds = s .holds; before = λ k l. s .before k zero-le l }) (least-is (goesTo numbers count b) n) ∙
           sym (tab-at (slotAt numbers n count) count b h)
-
--- a loop that puts the same everywhere
-pub all-of : (v n : ℕ) → tabulate (λ _. v) n ≡ replicate n v
-all-of v n = ext-getD 0 _ _ (tab-length _ n ∙ sym (length-replicate n v)) (λ b h. each b (rw tab-length at h))
-  where
-    each : (b : ℕ) → b < n → getD (tabulate (λ _. v) n) b 0 ≡ getD (replicate n v) b 0
-    each b h = tab-at (λ _. v) n b h ∙ sym (getD-replicate n b v 0 h)

@@ -13,25 +13,14 @@ pub(crate) fn slot(hash: u32, count: usize) -> usize
     hash as usize % count
 }
 
-// Every slot holds n.
-fn clear(slots: &mut [u16], n: u16)
-    ensures { λ _. ⌜ now (slots .exit) ≡ replicate (length (now (slots .entry))) n ⌝ }
-{
-    let mut b = 0;
-    while b < slots.len() {
-        slots[b] = n;
-        b += 1;
-    }
-}
-
-// Each slot holds the first of n numbers that goes to it, and n where none does: filled from the last number to the first.
+// Each slot holds the first of n numbers that goes to it, and n, as all did, where none does: filled from the last number to the first.
 pub(crate) fn fill(hashes: &[u32], n: usize, slots: &mut [u16])
     requires { ⌜ n ≤ length (now hashes) ⌝ }
     requires { ⌜ n ≤ 65535 ⌝ }
     requires { ⌜ 0 < length (now slots) ⌝ }
+    requires { ⌜ now slots ≡ replicate (length (now slots)) n ⌝ }
     ensures { λ _. ⌜ now (slots .exit) ≡ slotsOf (now (hashes .entry)) n (length (now (slots .entry))) ⌝ }
 {
-    clear(slots, n as u16);
     let mut i = n;
     while 0 < i {
         i -= 1;

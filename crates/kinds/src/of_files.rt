@@ -134,6 +134,24 @@ impl Fixed {
         size: 25,
     };
 
+    // An enrolment's header has no such items to be given.
+    pub const ENROLMENT_ITEM6: usize = 0;
+
+    pub const ENROLMENT_ITEM7: usize = 0;
+
+    pub const DEBIT_ITEM6: usize = 7;
+
+    pub const DEBIT_ITEM7: usize = 16;
+
+    pub const ENROLMENT_MARK: usize = 91;
+
+    pub const DEBIT_MARK: usize = 68;
+
+    // Items 3 and 5; of a debit 6 and 7 too.
+    pub const ENROLMENT_AGREED: usize = 2;
+
+    pub const DEBIT_AGREED: usize = 4;
+
     fn enrolment(written: bool) -> Self
         ensures { λ r. ⌜ r ≡ enrolment written ⌝ }
     {
@@ -141,10 +159,10 @@ impl Fixed {
             size: Fixed::ENROLMENT_SIZE,
             body: Fixed::ENROLMENT_BODY,
             key: Fixed::ENROLMENT_KEY,
-            item6: 0,
-            item7: 0,
-            mark: 91,
-            agreed: 2,
+            item6: Fixed::ENROLMENT_ITEM6,
+            item7: Fixed::ENROLMENT_ITEM7,
+            mark: Fixed::ENROLMENT_MARK,
+            agreed: Fixed::ENROLMENT_AGREED,
             written,
         }
     }
@@ -156,10 +174,10 @@ impl Fixed {
             size: Fixed::DEBIT_SIZE,
             body: Fixed::DEBIT_BODY,
             key: Fixed::DEBIT_KEY,
-            item6: 7,
-            item7: 16,
-            mark: 68,
-            agreed: 4,
+            item6: Fixed::DEBIT_ITEM6,
+            item7: Fixed::DEBIT_ITEM7,
+            mark: Fixed::DEBIT_MARK,
+            agreed: Fixed::DEBIT_AGREED,
             written,
         }
     }

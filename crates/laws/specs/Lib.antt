@@ -4,3 +4,4 @@ pub mod Sum
 pub mod Part
 pub mod Joined
 pub mod Tabulate
+pub mod Stored

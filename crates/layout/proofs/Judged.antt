@@ -1,6 +1,6 @@
 -- What an answer on a record says of its rows.
 -- Assumes nothing.
-use Prim.Native.Nat.{ℕ, _≤_, _<_}
+use Prim.Native.Nat.{ℕ, _+_, _≤_, _<_}
 use mathlib.Core.Bool.{true, false, cond}
 use mathlib.Core.List.{List}
 use mathlib.Core.Path.{_≡_, refl, ap, sym, _∙_}
@@ -19,11 +19,13 @@ use Rattle.answers.specs.declared.told.Answer.{Answer}
 use Rattle.kinds.specs.declared.of_files.Kind.{Kind}
 use Rattle.kinds.specs.declared.of_files.Own.{Own}
 use Rattle.kinds.specs.declared.of_files.Role.{Role}
-use Rattle.tables.specs.declared.rows.Row.{Row}
+use Rattle.tables.specs.declared.row.Row.{Row}
+use Rattle.kinds.specs.Kinds.{fixedOf}
 use Rattle.tables.specs.Rows.{blank}
 use Rattle.tables.specs.Tables.{rowsOf}
 use Rattle.rows.specs.Laid.{most, laidOut}
-use Rattle.rows.proofs.Laying.{first, first-laid, rows-fit}
+use Rattle.tables.proofs.Tiling.{size-least}
+use Rattle.rows.proofs.Laying.{first, first-laid, rows-fit, laid-inside}
 use Rattle.answers.specs.Answers.{accepted, refuses, refusesAt, toldAt, firstTold}
 use Rattle.layout.specs.Rules.{meets, holds}
 use Rattle.layout.specs.Judging.{brokenAt, rowTells, judgeBy, judgeOf}
@@ -99,7 +101,18 @@ module _ (o : Own) (rows : List Row) (long : length rows ≡ most) (rec header :
   unfolding judgeBy
   rows-end e = told-end (rowTells o rows rec header n) (length rows) (rw long e)
 
--- a table that lays out a record's rows tells what they tell
+-- a table that lays out a record's rows is one by which the record, and its header, can be judged
+pub laid-judged :
+    (k : Kind) (role : Role) (rows : List Row) → rows ≡ laidOut (rowsOf k role) →
+    (rec header : List ℕ) → length rec ≡ fixedOf k .size → length header ≡ fixedOf k .size →
+    ((i : ℕ) → getD rows i blank .1 + getD rows i blank .2 ≤ length rec) ×
+    (((i : ℕ) → getD rows i blank .1 + getD rows i blank .2 ≤ length header) × ((55 ≤ length rec) × (55 ≤ length header)))
+laid-judged k role rows laid rec header e f =
+    let within = laid-inside k role rows laid in
+    let least = size-least k in
+    (λ i. omega (arith, within i, e), (λ i. omega (arith, within i, f), (omega (arith, least, e), omega (arith, least, f))))
+
+-- and tells what they tell
 pub laid-tells :
     (k : Kind) (role : Role) (rows : List Row) → rows ≡ laidOut (rowsOf k role) → (rec header : List ℕ) (n : ℕ) →
     judgeBy (k .own) rows rec header n ≡ judgeOf k role rec header n

@@ -9,9 +9,9 @@ use Rattle.text.specs.Characters.{each, codeText, filled, digits, zeros}
 use Rattle.numbers.specs.Numbers.{says, wordOf}
 use Rattle.numbers.specs.Dates.{isDate, notLater}
 use Rattle.kinds.specs.declared.of_files.Own.{Own}
-use Rattle.tables.specs.declared.rows.Row.{Row}
-use Rattle.tables.specs.declared.rows.Class.{Class}
-use Rattle.tables.specs.declared.rows.Class.the-variants.{Each, CodeText, Filled, Owner, Institution, KindName, Date, NameDate, Serial, AsHeader, NotLater, Application, NotZero, Failed, FailedOrPart, Least}
+use Rattle.tables.specs.declared.row.Row.{Row}
+use Rattle.tables.specs.declared.row.Class.{Class}
+use Rattle.tables.specs.declared.row.Class.the-variants.{Each, CodeText, Filled, Owner, Institution, KindName, Date, NameDate, Serial, AsHeader, NotLater, Application, NotZero, Failed, FailedOrPart, Least}
 use Rattle.tables.specs.Codes.{isTableCode}
 use Rattle.layout.specs.Items.{dateOf, nameDay, amountOf, applicationOf}
 

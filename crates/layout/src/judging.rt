@@ -12,7 +12,7 @@ use kinds::of_files::Own;
 use kinds::of_files::Role;
 use rows::by_record;
 use rows::by_record::MOST;
-use tables::rows::Row;
+use tables::row::Row;
 
 // A row with no code is one in which the item disagrees with the kind or the header.
 fn broken_at(number: u64, row: Row) -> Answer

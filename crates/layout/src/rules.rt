@@ -9,8 +9,8 @@ use kinds::of_files::Own;
 use numbers::base_ten;
 use numbers::dates;
 use tables::codes;
-use tables::rows::Class;
-use tables::rows::Row;
+use tables::row::Class;
+use tables::row::Row;
 use text::characters;
 use text::parts;
 

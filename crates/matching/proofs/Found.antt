@@ -11,8 +11,8 @@ use Rattle.kinds.specs.Kinds.{limit}
 use Rattle.keys.specs.Keys.{hasKeyIn, placeIn}
 use Rattle.keys.specs.Stands.{keyIn}
 use Rattle.keys.proofs.Found.{place-of, places-length}
-use Rattle.records.specs.Records.{dataOf}
-use Rattle.reader.specs.Keys.{keyAt, spacingOf}
+use Rattle.records.specs.Records.{dataOf, keyAt}
+use Rattle.reader.specs.Keys.{spacingOf}
 use Rattle.reader.proofs.Places.{key-place}
 use Rattle.kinds.specs.declared.of_pairs.PairKind.{PairKind}
 use Rattle.kinds.specs.Pairs.{requestKind, resultKind}

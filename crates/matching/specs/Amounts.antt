@@ -7,7 +7,7 @@ use Rattle.records.specs.Records.{dataOf}
 use Rattle.records.specs.Quantities.{worthAt}
 use Rattle.kinds.specs.declared.of_pairs.PairKind.{PairKind}
 use Rattle.kinds.specs.Pairs.{requestKind, resultKind}
-use Rattle.terms.specs.Amounts.{asks}
+use Rattle.agreement.specs.Amounts.{asks}
 use Rattle.matching.specs.Matching.{resultFor}
 
 -- what request i + 1 asks

@@ -8,8 +8,8 @@ use Rattle.kinds.specs.declared.of_files.Kind.{Kind}
 use Rattle.kinds.specs.Kinds.{limit}
 use Rattle.keys.specs.Keys.{placesIn}
 use Rattle.keys.specs.Stands.{keyIn}
-use Rattle.records.specs.Records.{dataOf}
-use Rattle.reader.specs.Keys.{keyAt, spacingOf}
+use Rattle.records.specs.Records.{dataOf, keyAt}
+use Rattle.reader.specs.Keys.{spacingOf}
 use Rattle.kinds.specs.declared.of_pairs.PairKind.{PairKind}
 use Rattle.kinds.specs.Pairs.{requestKind, resultKind}
 

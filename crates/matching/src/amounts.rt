@@ -1,9 +1,9 @@
 // What a request asks, what its result says was not taken, and what was taken.
 ghost use mathlib.Core.Path.{_≡_};
-ghost use Prim.Native.Nat.{_+_, _-_, _<_, _^_};
+ghost use Prim.Native.Nat.{_-_, _<_, _^_};
 ghost use Rattle.records.specs.Records.{dataOf};
 ghost use Rattle.kinds.specs.Pairs.{requestKind};
-ghost use Rattle.terms.specs.Amounts.{asks};
+ghost use Rattle.agreement.specs.Amounts.{asks};
 ghost use Rattle.matching.specs.Amounts.{askedAt, notTakenBy};
 use kinds::of_pairs;
 use kinds::of_pairs::Family;

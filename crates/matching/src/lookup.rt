@@ -35,7 +35,7 @@ fn places_in(
 {
     let none: [u32; 0] = [];
     let mut numbers = [0u32; LIMIT];
-    let mut firsts = [0u16; table::SLOTS];
+    let mut firsts = [n as u16; table::SLOTS];
     table::fill(s, &none, spacing, n, &mut numbers, &mut firsts);
     places::places(
         s,

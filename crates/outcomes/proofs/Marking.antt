@@ -17,18 +17,18 @@ use Rattle.tables.specs.Copied.{among, itemsBut, debitCopied}
 use Rattle.answers.specs.Answers.{refuses, _then_, refusesAt, toldAt, firstTold}
 use Rattle.layout.specs.Rules.{institution, failed, partly, enough, meets, holds}
 use Rattle.layout.specs.Judging.{rowTells, judgeBy, judgeOf}
-use Rattle.records.specs.Records.{recordAt, countOf}
+use Rattle.records.specs.Records.{recordAt, countOf, keyAt}
 use Rattle.reader.specs.Judged.{roleOf, judgedAt, recordsTell}
 use Rattle.records.specs.Quantities.{worth, worthAt, quantityOf}
 use Rattle.reader.specs.Totals.{totalHolds, totalTells, totalsTell}
-use Rattle.reader.specs.Keys.{keyAt, repeats, repeatTold, keysTell}
+use Rattle.reader.specs.Keys.{repeats, repeatTold, keysTell}
 use Rattle.reader.specs.Reading.{isWhole, lengthTells, readAs, readOf}
 use Rattle.reader.specs.Samples.{all, code, letters, headerRest, headerFor, trailerFor, noTotals, emptyOn}
 use Rattle.kinds.specs.Pairs.{pairs, pairFrom, requestIs, pairOf}
-use Rattle.terms.specs.Items.{headerItems, agrees, itemTells, itemsTell}
-use Rattle.terms.specs.Amounts.{bases, baseOf, possible, partOfOne, debitTells}
-use Rattle.terms.specs.Meeting.{meetsTell, headersTell}
-use Rattle.terms.specs.Marks.{markIn, codeIn}
+use Rattle.agreement.specs.Items.{headerItems, agrees, itemTells, itemsTell}
+use Rattle.agreement.specs.Amounts.{bases, baseOf, possible, partOfOne, debitTells}
+use Rattle.agreement.specs.Meeting.{meetsTell, headersTell}
+use Rattle.agreement.specs.Marks.{markIn, codeIn}
 use Rattle.matching.specs.Matching.{hasKey, placeOf, requestFor, resultFor}
 use Rattle.matching.specs.Amounts.{askedAt, notTakenBy, notTakenAt, takenAt}
 use Rattle.pair.specs.Results.{resultTells, resultsTell}

@@ -20,8 +20,8 @@ use Rattle.records.specs.Quantities.{worthAt}
 use Rattle.reader.specs.Meets.{Lengths}
 use Rattle.kinds.specs.declared.of_pairs.PairKind.{PairKind}
 use Rattle.kinds.specs.Pairs.{requestKind, resultKind}
-use Rattle.terms.specs.Marks.{markIn, codeIn}
-use Rattle.terms.specs.Same.{resultAt}
+use Rattle.agreement.specs.Marks.{markIn, codeIn}
+use Rattle.agreement.specs.Same.{resultAt}
 use Rattle.pair.proofs.Marks.{result-mark}
 use Rattle.pair.proofs.Possible.{possible-all}
 use Rattle.matching.specs.Matching.{resultFor}

@@ -13,8 +13,8 @@ use Rattle.kinds.specs.declared.of_files.Own.{Own}
 use Rattle.kinds.specs.declared.of_pairs.PairKind.{PairKind}
 use Rattle.kinds.specs.declared.of_pairs.Family.the-variants.{Debit}
 use Rattle.kinds.specs.Pairs.{pairKind, resultKind}
-use Rattle.terms.specs.Same.{requestAt, resultAt}
-use Rattle.terms.specs.Possible.{baseFor, PossibleIn, Possible}
+use Rattle.agreement.specs.Same.{requestAt, resultAt}
+use Rattle.agreement.specs.Possible.{baseFor, PossibleIn, Possible}
 use Rattle.matching.specs.Amounts.{askedAt, takenAt, notTakenBy, notTakenAt}
 use Rattle.pair.specs.Pairing.{pairBy}
 use Rattle.pair.specs.Assigned.{Matches, Met}

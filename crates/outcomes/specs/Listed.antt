@@ -8,8 +8,8 @@ use Rattle.answers.specs.Answers.{accepted}
 use Rattle.records.specs.Records.{dataOf}
 use Rattle.kinds.specs.declared.of_pairs.PairKind.{PairKind}
 use Rattle.kinds.specs.Pairs.{requestKind}
-use Rattle.terms.specs.Marks.{markIn, codeIn}
-use Rattle.terms.specs.Same.{resultAt}
+use Rattle.agreement.specs.Marks.{markIn, codeIn}
+use Rattle.agreement.specs.Same.{resultAt}
 use Rattle.matching.specs.Amounts.{askedAt, takenAt, notTakenAt}
 use Rattle.pair.specs.Pairing.{pairBy}
 use Rattle.pair.specs.Assigned.{Matches}

@@ -10,7 +10,7 @@ use Rattle.kinds.specs.declared.of_pairs.PairKind.{PairKind}
 use Rattle.kinds.specs.declared.of_pairs.PairNamed.{PairNamed}
 use Rattle.kinds.specs.declared.of_pairs.PairNamed.the-variants.{Is, Unknown}
 use Rattle.kinds.specs.Pairs.{requestKind, resultKind, pairOf}
-use Rattle.terms.specs.Marks.{markIn, codeIn}
+use Rattle.agreement.specs.Marks.{markIn, codeIn}
 use Rattle.matching.specs.Matching.{resultFor}
 use Rattle.matching.specs.Amounts.{askedAt, takenAt, notTakenAt}
 use Rattle.pair.specs.Pairing.{pairBy}

@@ -28,7 +28,7 @@ use Rattle.reader.proofs.Accepted.{total-value}
 use Rattle.kinds.specs.declared.of_pairs.PairKind.{PairKind}
 use Rattle.kinds.specs.declared.of_pairs.Family.the-variants.{Enrolment}
 use Rattle.kinds.specs.Pairs.{pairKind, requestKind, resultKind}
-use Rattle.terms.specs.Same.{requestAt, resultAt, Agree}
+use Rattle.agreement.specs.Same.{requestAt, resultAt, Agree}
 use Rattle.matching.specs.Matching.{resultFor}
 use Rattle.matching.specs.Amounts.{askedAt, takenAt, notTakenBy, notTakenAt}
 use Rattle.pair.specs.Pairing.{pairBy}

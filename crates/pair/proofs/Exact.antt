@@ -13,7 +13,7 @@ use Rattle.reader.specs.Meets.{Meets}
 use Rattle.reader.proofs.Exact.{read-exact}
 use Rattle.kinds.specs.declared.of_pairs.PairKind.{PairKind}
 use Rattle.kinds.specs.Pairs.{requestKind, resultKind}
-use Rattle.terms.specs.Same.{HeadersAgree}
+use Rattle.agreement.specs.Same.{HeadersAgree}
 use Rattle.answers.proofs.Refusals.{number-of}
 use Rattle.matching.specs.Matching.{requestFor, resultFor}
 use Rattle.pair.specs.Pairing.{listsFit, pairAs}

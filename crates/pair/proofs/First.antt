@@ -14,13 +14,13 @@ use Rattle.records.specs.Records.{recordOf, dataOf}
 use Rattle.reader.specs.Reading.{readAs}
 use Rattle.reader.proofs.Exact.{read-exact}
 use Rattle.kinds.specs.declared.of_pairs.PairKind.{PairKind}
-use Rattle.terms.specs.declared.items.Compared.the-variants.{Headers}
+use Rattle.agreement.specs.declared.items.Compared.the-variants.{Headers}
 use Rattle.kinds.specs.Pairs.{requestKind, resultKind}
-use Rattle.terms.specs.Items.{comparedOf}
-use Rattle.terms.specs.Meeting.{headersTell}
-use Rattle.terms.specs.Same.{HeadersAgree}
+use Rattle.agreement.specs.Items.{comparedOf}
+use Rattle.agreement.specs.Meeting.{headersTell}
+use Rattle.agreement.specs.Same.{HeadersAgree}
 use Rattle.reader.proofs.Accepted.{read-zero}
-use Rattle.terms.proofs.Compared.{Differs, items-told, headers-told}
+use Rattle.agreement.proofs.Compared.{Differs, items-told, headers-told}
 use Rattle.pair.specs.Results.{resultTells, resultsTell}
 use Rattle.pair.specs.Pairing.{pairBy, listsFit, pairAs}
 use Rattle.pair.specs.First.{Stands, StandTo, BothRead, Ready, Reached, PairSays}

@@ -7,13 +7,12 @@ use native.Mathlib.Omega.{arith}
 use Rattle.laws.proofs.Leasts.{least-is, least-some}
 use Rattle.laws.proofs.Parts.{same-equal, same-self}
 use Rattle.kinds.specs.declared.of_files.Kind.{Kind}
-use Rattle.records.specs.Records.{dataOf}
-use Rattle.reader.specs.Keys.{keyAt}
+use Rattle.records.specs.Records.{dataOf, keyAt}
 use Rattle.reader.specs.Meets.{Distinct}
 use Rattle.kinds.specs.declared.of_pairs.PairKind.{PairKind}
 use Rattle.kinds.specs.Pairs.{requestKind, resultKind}
-use Rattle.terms.specs.Same.{requestAt, resultAt}
-use Rattle.terms.proofs.Places.{agree-key}
+use Rattle.agreement.specs.Same.{requestAt, resultAt}
+use Rattle.agreement.proofs.Places.{agree-key}
 use Rattle.matching.specs.Matching.{hasKey, placeOf, requestFor, resultFor}
 use Rattle.pair.specs.Assigned.{Matches, Met}
 

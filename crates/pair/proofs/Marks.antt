@@ -29,8 +29,8 @@ use Rattle.kinds.specs.declared.of_pairs.PairKind.{PairKind}
 use Rattle.kinds.specs.declared.of_pairs.Family.{Family}
 use Rattle.kinds.specs.declared.of_pairs.Family.the-variants.{Enrolment, Debit}
 use Rattle.kinds.specs.Pairs.{resultIn, resultKind}
-use Rattle.terms.specs.Marks.{markIn}
-use Rattle.terms.specs.Same.{resultAt}
+use Rattle.agreement.specs.Marks.{markIn}
+use Rattle.agreement.specs.Same.{resultAt}
 
 -- the mark of a result's item is its first byte
 first-byte : (start : ℕ) (rec : List ℕ) → getD (part start 5 rec) 0 0 ≡ getD rec start 0

@@ -13,9 +13,9 @@ use Rattle.reader.specs.Meets.{Meets}
 use Rattle.reader.proofs.Exact.{read-exact}
 use Rattle.kinds.specs.declared.of_pairs.PairKind.{PairKind}
 use Rattle.kinds.specs.Pairs.{requestKind, resultKind}
-use Rattle.terms.specs.Same.{HeadersAgree}
+use Rattle.agreement.specs.Same.{HeadersAgree}
 use Rattle.reader.proofs.Accepted.{meets-zero}
-use Rattle.terms.proofs.Compared.{headers-told}
+use Rattle.agreement.proofs.Compared.{headers-told}
 use Rattle.matching.specs.Matching.{requestFor, resultFor}
 use Rattle.pair.specs.Results.{resultTells, resultsTell}
 use Rattle.pair.specs.Pairing.{pairBy, listsFit, pairAs}

@@ -28,7 +28,7 @@ use Rattle.kinds.specs.declared.of_pairs.PairKind.{PairKind}
 use Rattle.kinds.specs.declared.of_pairs.Family.{Family}
 use Rattle.kinds.specs.declared.of_pairs.Family.the-variants.{Enrolment, Debit}
 use Rattle.kinds.specs.Pairs.{pairKind, requestIn, resultIn, requestKind, resultKind}
-use Rattle.terms.specs.Amounts.{asksIn, asks}
+use Rattle.agreement.specs.Amounts.{asksIn, asks}
 use Rattle.pair.proofs.Marks.{debit-mark}
 use Rattle.pair.proofs.Possible.{possible-most}
 use Rattle.matching.specs.Matching.{requestFor, resultFor}

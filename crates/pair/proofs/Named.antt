@@ -1,6 +1,6 @@
 -- The same by number: a pair kind is named by its request's kind.
 -- Assumes nothing.
-use Prim.Native.Nat.{ℕ, _-_, _≤_}
+use Prim.Native.Nat.{ℕ, _≤_}
 use mathlib.Core.Bool.{true}
 use mathlib.Core.List.{List}
 use mathlib.Core.Path.{_≡_, refl}
@@ -13,7 +13,7 @@ use Rattle.kinds.specs.declared.of_pairs.PairKind.{PairKind}
 use Rattle.kinds.specs.declared.of_pairs.PairNamed.{PairNamed}
 use Rattle.kinds.specs.declared.of_pairs.PairNamed.the-variants.{Is, Unknown}
 use Rattle.kinds.specs.Pairs.{requestKind, resultKind, pairOf}
-use Rattle.terms.specs.Same.{HeadersAgree}
+use Rattle.agreement.specs.Same.{HeadersAgree}
 use Rattle.matching.specs.Amounts.{takenAt, notTakenAt}
 use Rattle.pair.specs.Pairing.{pairBy, listsFit, pairAs, listAfter, pairNamed, pairTold, takenAfter, notTakenAfter}
 use Rattle.pair.specs.Assigned.{Assignment}

@@ -22,10 +22,10 @@ use Rattle.kinds.specs.declared.of_pairs.PairKind.{PairKind}
 use Rattle.kinds.specs.declared.of_pairs.Family.{Family}
 use Rattle.kinds.specs.declared.of_pairs.Family.the-variants.{Enrolment, Debit}
 use Rattle.kinds.specs.Pairs.{pairKind, resultIn, resultKind}
-use Rattle.terms.specs.Amounts.{asksIn, asks, baseOf, possible, partOfOne, debitTells, amountsIn, amountsTell}
-use Rattle.terms.specs.Marks.{markIn}
-use Rattle.terms.specs.Same.{resultAt}
-use Rattle.terms.specs.Possible.{baseFor, PossibleIn, Possible, OnTypeOne, Impossible, AmountsRefused}
+use Rattle.agreement.specs.Amounts.{asksIn, asks, baseOf, possible, partOfOne, debitTells, amountsIn, amountsTell}
+use Rattle.agreement.specs.Marks.{markIn}
+use Rattle.agreement.specs.Same.{resultAt}
+use Rattle.agreement.specs.Possible.{baseFor, PossibleIn, Possible, OnTypeOne, Impossible, AmountsRefused}
 use Rattle.pair.proofs.Marks.{Marked, debit-mark, debit-amount}
 
 -- what is told of the amounts

@@ -15,14 +15,14 @@ use Rattle.answers.proofs.Refusals.{then-first, then-second, number-of}
 use Rattle.records.specs.Records.{dataOf}
 use Rattle.reader.specs.Meets.{Meets}
 use Rattle.kinds.specs.declared.of_pairs.PairKind.{PairKind}
-use Rattle.terms.specs.declared.items.Compared.the-variants.{Records}
+use Rattle.agreement.specs.declared.items.Compared.the-variants.{Records}
 use Rattle.kinds.specs.Pairs.{requestKind, resultKind}
-use Rattle.terms.specs.Items.{comparedOf, itemsTell}
-use Rattle.terms.specs.Amounts.{amountsTell}
-use Rattle.terms.specs.Meeting.{meetsTell}
-use Rattle.terms.specs.Same.{requestAt, resultAt, Agree}
-use Rattle.terms.specs.Possible.{AmountsRefused}
-use Rattle.terms.proofs.Compared.{Differs, items-told, same-told}
+use Rattle.agreement.specs.Items.{comparedOf, itemsTell}
+use Rattle.agreement.specs.Amounts.{amountsTell}
+use Rattle.agreement.specs.Meeting.{meetsTell}
+use Rattle.agreement.specs.Same.{requestAt, resultAt, Agree}
+use Rattle.agreement.specs.Possible.{AmountsRefused}
+use Rattle.agreement.proofs.Compared.{Differs, items-told, same-told}
 use Rattle.pair.proofs.Possible.{AmountsTold, amounts-told, possible-told}
 use Rattle.matching.specs.Matching.{requestFor}
 use Rattle.pair.specs.Results.{resultTells}

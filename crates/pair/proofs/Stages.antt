@@ -19,7 +19,7 @@ use Rattle.records.specs.Records.{dataOf}
 use Rattle.reader.specs.Reading.{readAs}
 use Rattle.kinds.specs.declared.of_pairs.PairKind.{PairKind}
 use Rattle.kinds.specs.Pairs.{requestKind, resultKind}
-use Rattle.terms.specs.Meeting.{headersTell}
+use Rattle.agreement.specs.Meeting.{headersTell}
 use Rattle.pair.specs.Results.{resultsTell}
 use Rattle.pair.specs.Pairing.{onSide, roomTells, pairBy, listsFit, pairAs, listAfter}
 

@@ -2,15 +2,14 @@
 use Prim.Native.Nat.{ℕ, _<_}
 use mathlib.Core.List.{List}
 use mathlib.Core.Path.{_≡_}
-use Rattle.records.specs.Records.{dataOf}
-use Rattle.reader.specs.Keys.{keyAt}
+use Rattle.records.specs.Records.{dataOf, keyAt}
 use Rattle.layout.specs.Items.{amountOf}
 use Rattle.kinds.specs.declared.of_pairs.PairKind.{PairKind}
 use Rattle.kinds.specs.declared.of_pairs.Family.{Family}
 use Rattle.kinds.specs.declared.of_pairs.Family.the-variants.{Enrolment, Debit}
 use Rattle.kinds.specs.Pairs.{requestKind, resultKind}
-use Rattle.terms.specs.Same.{requestAt, resultAt, Agree}
-use Rattle.terms.specs.Possible.{Possible}
+use Rattle.agreement.specs.Same.{requestAt, resultAt, Agree}
+use Rattle.agreement.specs.Possible.{Possible}
 
 -- result j + 1 has the key of request i + 1
 pub record Matches (p : PairKind) (q r : List ℕ) (i j : ℕ) : Type 0 where

@@ -11,11 +11,11 @@ use Rattle.answers.specs.Answers.{accepted, refused, refusedAt}
 use Rattle.records.specs.Records.{recordOf, dataOf}
 use Rattle.reader.specs.Reading.{readAs}
 use Rattle.kinds.specs.declared.of_pairs.PairKind.{PairKind}
-use Rattle.terms.specs.declared.items.Compared.the-variants.{Headers, Records}
+use Rattle.agreement.specs.declared.items.Compared.the-variants.{Headers, Records}
 use Rattle.kinds.specs.Pairs.{requestKind, resultKind}
-use Rattle.terms.specs.Items.{comparedOf}
-use Rattle.terms.specs.Same.{requestAt, resultAt, SameItem, SameTo, Agree, HeadersAgree}
-use Rattle.terms.specs.Possible.{AmountsRefused}
+use Rattle.agreement.specs.Items.{comparedOf}
+use Rattle.agreement.specs.Same.{requestAt, resultAt, SameItem, SameTo, Agree, HeadersAgree}
+use Rattle.agreement.specs.Possible.{AmountsRefused}
 use Rattle.pair.specs.Pairing.{onSide}
 use Rattle.pair.specs.Assigned.{Matches, Met}
 

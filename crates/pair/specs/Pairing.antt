@@ -13,7 +13,7 @@ use Rattle.kinds.specs.declared.of_pairs.PairKind.{PairKind}
 use Rattle.kinds.specs.declared.of_pairs.PairNamed.{PairNamed}
 use Rattle.kinds.specs.declared.of_pairs.PairNamed.the-variants.{Is, Unknown}
 use Rattle.kinds.specs.Pairs.{requestKind, resultKind, pairOf}
-use Rattle.terms.specs.Meeting.{headersTell}
+use Rattle.agreement.specs.Meeting.{headersTell}
 use Rattle.matching.specs.Amounts.{takenAt, notTakenAt}
 use Rattle.pair.specs.Results.{resultsTell}
 

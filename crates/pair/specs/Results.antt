@@ -9,7 +9,7 @@ use Rattle.answers.specs.Answers.{refusedAt, firstTold}
 use Rattle.records.specs.Records.{recordOf, dataOf}
 use Rattle.kinds.specs.declared.of_pairs.PairKind.{PairKind}
 use Rattle.kinds.specs.Pairs.{requestKind, resultKind}
-use Rattle.terms.specs.Meeting.{meetsTell}
+use Rattle.agreement.specs.Meeting.{meetsTell}
 use Rattle.matching.specs.Matching.{requestFor}
 
 -- result j + 1: 13 at the key item where it has no request

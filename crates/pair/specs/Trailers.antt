@@ -20,7 +20,7 @@ use Rattle.kinds.specs.declared.of_pairs.Family.the-variants.{Enrolment, Debit}
 use Rattle.kinds.specs.Pairs.{requestKind, resultKind}
 use Rattle.matching.specs.Matching.{resultFor}
 use Rattle.matching.specs.Amounts.{takenAt, notTakenAt}
-use Rattle.terms.specs.Same.{requestAt}
+use Rattle.agreement.specs.Same.{requestAt}
 
 -- the number that an item of the trailer says; the item's place is had from the trailer's rows
 unfoldable pub trailerSays : Kind → ℕ → List ℕ → ℕ

@@ -7,6 +7,7 @@ ghost use Rattle.pair.specs.Pairing.{onSide, listsFit, pairBy, pairAs, l
 ghost use Rattle.matching.specs.Amounts.{takenAt, notTakenAt};
 use crate::lists;
 use crate::results;
+use agreement::meeting;
 use answers::told::Answer;
 use kinds::of_pairs;
 use kinds::of_pairs::PairKind;
@@ -14,7 +15,6 @@ use kinds::of_pairs::PairNamed;
 use matching::lookup;
 use reader::reading;
 use records::listed;
-use terms::meeting;
 
 fn on_side(side: u64, answer: Answer) -> Answer
     ensures { λ r. ⌜ r ≡ onSide side answer ⌝ }

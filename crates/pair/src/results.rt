@@ -6,12 +6,12 @@ ghost use Rattle.records.specs.Records.{countOf};
 ghost use Rattle.kinds.specs.Pairs.{resultKind};
 ghost use Rattle.matching.specs.Matching.{requestFor, requestsFor};
 ghost use Rattle.pair.specs.Results.{resultTells, resultsTell};
+use agreement::meeting;
 use answers::told::Answer;
 use kinds::of_files::Fixed;
 use kinds::of_pairs;
 use kinds::of_pairs::PairKind;
 use records::listed;
-use terms::meeting;
 
 // Result j + 1, whose request is i + 1.
 fn result_tells(pair: PairKind, request: &[u8], result: &[u8], j: usize, i: usize) -> Answer

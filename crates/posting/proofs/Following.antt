@@ -10,22 +10,21 @@ use lib.ListN.{length, getD, set, take, drop, length-append, take-append-drop}
 use lib.Seq.{paste, paste-suc, take-length, take-at, drop-append-add, drop-drop, length-take-le}
 use Rattle.laws.specs.Joined.{joined}
 use Rattle.laws.proofs.Joins.{joined-start, joined-more}
-use Rattle.posting.specs.Puts.{putAt}
+use Rattle.laws.specs.Stored.{stored}
 
 -- x was put at `at` of a buffer, r is the place after it, and `new` is the buffer afterwards
 pub record Put (at : ℕ) (x old : List ℕ) (r : ℕ) (new : List ℕ) : Type 0 where
   pub place : r ≡ at + length x
-  pub after : new ≡ putAt at x old
+  pub after : new ≡ stored at x old
 
-pub put : (x : List ℕ) {at r : ℕ} {old new : List ℕ} → r ≡ at + length x → new ≡ putAt at x old → Put at x old r new
+pub put : (x : List ℕ) {at r : ℕ} {old new : List ℕ} → r ≡ at + length x → new ≡ stored at x old → Put at x old r new
 put x p a = record { place = p; after = a }
 
 module _ (at : ℕ) (x old : List ℕ) (fits : at ≤ length old) where
   front-length : length (take at old ++ x) ≡ at + length x
   front-length = length-append (take at old) x ∙ rw (length-take-le at old fits)
 
-  put-put : (y : List ℕ) → putAt (at + length x) y (putAt at x old) ≡ putAt at (x ++ y) old
-  unfolding putAt
+  put-put : (y : List ℕ) → stored (at + length x) y (stored at x old) ≡ stored at (x ++ y) old
   put-put y =
       rw (
         take-at (take at old ++ x) (drop (at + length x) old) (at + length x) front-length,
@@ -47,20 +46,17 @@ put-then {at} {r} {r₂} {x} {y} {old} {new} {new₂} a b fits = record {
 }
 
 -- nothing is put
-pub put-none : (at : ℕ) (old : List ℕ) → putAt at [] old ≡ old
-unfolding putAt
+pub put-none : (at : ℕ) (old : List ℕ) → stored at [] old ≡ old
 put-none at old = rw (append-nil, add-zero) (take-append-drop at old)
 
 -- at the front
-pub put-front : (x old : List ℕ) → putAt 0 x old ≡ x ++ drop (length x) old
-unfolding putAt
+pub put-front : (x old : List ℕ) → stored 0 x old ≡ x ++ drop (length x) old
 put-front x old = rw zero-add
 
 -- a loop that pastes all of x but its last byte, which is stored at the end
 pub put-last :
     (at w v : ℕ) (x old text : List ℕ) → text ≡ paste old at x w → v ≡ getD x w 0 → length x ≡ w + 1 → at + w < length old →
-    set text (at + w) v ≡ putAt at x old
-unfolding putAt
+    set text (at + w) v ≡ stored at x old
 put-last at w v x old text e q l fits =
     rw (e, q, paste-suc old at x w 0 fits (omega arith)) (rw (← add-one w, ← l, take-length))
 
@@ -75,5 +71,5 @@ module _ (f : ℕ → List ℕ) (at : ℕ) (old : List ℕ) where
   joined-next i a b fits = rw (joined-more f i) (put-then a b fits)
 
 -- what was put at the front, taken again
-pub put-taken : (n : ℕ) (x old new : List ℕ) → n ≡ length x → new ≡ putAt 0 x old → take n new ≡ x
+pub put-taken : (n : ℕ) (x old new : List ℕ) → n ≡ length x → new ≡ stored 0 x old → take n new ≡ x
 put-taken n x old new e a = rw (a, put-front x old) (take-at x (drop (length x) old) n (sym e))

@@ -2,4 +2,3 @@
 pub mod Decimal
 pub mod Lines
 pub mod Posting
-pub mod Puts

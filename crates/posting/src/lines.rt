@@ -3,7 +3,7 @@ ghost use mathlib.Core.Path.{_≡_};
 ghost use Prim.Native.Nat.{_+_, _≤_};
 ghost use lib.ListN.{length};
 ghost use Rattle.posting.specs.Lines.{wordFor, refusalLine, acceptedLine, requestLine};
-ghost use Rattle.posting.specs.Puts.{putAt};
+ghost use Rattle.laws.specs.Stored.{stored};
 use crate::puts;
 use answers::told::Answer;
 use outcomes::cases;
@@ -14,7 +14,7 @@ use outcomes::sums::Sums;
 pub(crate) fn put_refusal(text: &mut [u8], at: usize, answer: Answer) -> usize
     requires { ⌜ at + 100 ≤ length (now text) ⌝ }
     ensures { λ r. ⌜ r ≡ at + length (refusalLine answer) ⌝ }
-    ensures { λ _. ⌜ now (text .exit) ≡ putAt at (refusalLine answer) (now (text .entry)) ⌝ }
+    ensures { λ _. ⌜ now (text .exit) ≡ stored at (refusalLine answer) (now (text .entry)) ⌝ }
     ensures { λ r. ⌜ r ≤ at + 100 ⌝ }
 {
     let side = puts::put_bytes(text, at, b"refused ");
@@ -29,7 +29,7 @@ pub(crate) fn put_refusal(text: &mut [u8], at: usize, answer: Answer) -> usize
 pub(crate) fn put_accepted(text: &mut [u8], at: usize, n: u64, sums: Sums) -> usize
     requires { ⌜ at + 100 ≤ length (now text) ⌝ }
     ensures { λ r. ⌜ r ≡ at + length (acceptedLine n sums) ⌝ }
-    ensures { λ _. ⌜ now (text .exit) ≡ putAt at (acceptedLine n sums) (now (text .entry)) ⌝ }
+    ensures { λ _. ⌜ now (text .exit) ≡ stored at (acceptedLine n sums) (now (text .entry)) ⌝ }
     ensures { λ r. ⌜ r ≤ at + 100 ⌝ }
 {
     let requests = puts::put_bytes(text, at, b"accepted ");
@@ -43,7 +43,7 @@ pub(crate) fn put_accepted(text: &mut [u8], at: usize, n: u64, sums: Sums) -> us
 fn put_word(text: &mut [u8], at: usize, outcome: Outcome) -> usize
     requires { ⌜ at + 8 ≤ length (now text) ⌝ }
     ensures { λ r. ⌜ r ≡ at + length (wordFor outcome) ⌝ }
-    ensures { λ _. ⌜ now (text .exit) ≡ putAt at (wordFor outcome) (now (text .entry)) ⌝ }
+    ensures { λ _. ⌜ now (text .exit) ≡ stored at (wordFor outcome) (now (text .entry)) ⌝ }
     ensures { λ r. ⌜ r ≤ at + 8 ⌝ }
 {
     match outcome {
@@ -58,7 +58,7 @@ fn put_word(text: &mut [u8], at: usize, outcome: Outcome) -> usize
 pub(crate) fn put_request(text: &mut [u8], at: usize, number: u64, outcome: Outcome) -> usize
     requires { ⌜ at + 80 ≤ length (now text) ⌝ }
     ensures { λ r. ⌜ r ≡ at + length (requestLine number outcome) ⌝ }
-    ensures { λ _. ⌜ now (text .exit) ≡ putAt at (requestLine number outcome) (now (text .entry)) ⌝ }
+    ensures { λ _. ⌜ now (text .exit) ≡ stored at (requestLine number outcome) (now (text .entry)) ⌝ }
     ensures { λ r. ⌜ r ≤ at + 80 ⌝ }
 {
     let four = cases::four(outcome);

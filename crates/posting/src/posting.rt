@@ -8,7 +8,7 @@ ghost use Rattle.kinds.specs.Pairs.{debitPair};
 ghost use Rattle.records.specs.Records.{countOf, dataOf};
 ghost use Rattle.matching.specs.Matching.{resultsFor};
 ghost use Rattle.posting.specs.Posting.{longest, sizeTells, postTells, lineAt, acceptedText, postText, postSize, postAfter};
-ghost use Rattle.posting.specs.Puts.{putAt};
+ghost use Rattle.laws.specs.Stored.{stored};
 use crate::lines;
 use crate::puts;
 use answers::told::Answer;
@@ -72,7 +72,7 @@ fn put_requests(
     requires { ⌜ now results ≡ resultsFor debitPair (now request) (now result) ⌝ }
     requires { ⌜ at + n * 80 ≤ length (now text) ⌝ }
     ensures { λ r. ⌜ r ≡ at + length (joined (lineAt (now (request .entry)) (now (result .entry))) n) ⌝ }
-    ensures { λ _. ⌜ now (text .exit) ≡ putAt at (joined (lineAt (now (request .entry)) (now (result .entry))) n) (now (text .entry)) ⌝ }
+    ensures { λ _. ⌜ now (text .exit) ≡ stored at (joined (lineAt (now (request .entry)) (now (result .entry))) n) (now (text .entry)) ⌝ }
     ensures { λ r. ⌜ r ≤ at + n * 80 ⌝ }
 {
     let mut place = at;
@@ -91,7 +91,7 @@ fn put_all(request: &[u8], result: &[u8], results: &[usize], text: &mut [u8]) ->
     requires { ⌜ now results ≡ resultsFor debitPair (now request) (now result) ⌝ }
     requires { ⌜ longest ≤ length (now text) ⌝ }
     ensures { λ r. ⌜ r ≡ length (acceptedText (now (request .entry)) (now (result .entry))) ⌝ }
-    ensures { λ _. ⌜ now (text .exit) ≡ putAt 0 (acceptedText (now (request .entry)) (now (result .entry))) (now (text .entry)) ⌝ }
+    ensures { λ _. ⌜ now (text .exit) ≡ stored 0 (acceptedText (now (request .entry)) (now (result .entry))) (now (text .entry)) ⌝ }
     ensures { λ r. ⌜ r ≤ longest ⌝ }
 {
     let n = listed::data_count(Kind::EB21, request);
@@ -104,7 +104,7 @@ fn put_all(request: &[u8], result: &[u8], results: &[usize], text: &mut [u8]) ->
 fn compose(request: &[u8], result: &[u8], frame: &mut [u8]) -> usize
     requires { ⌜ longest ≤ length (now frame) ⌝ }
     ensures { λ r. ⌜ r ≡ length (postText (now (request .entry)) (now (result .entry))) ⌝ }
-    ensures { λ _. ⌜ now (frame .exit) ≡ putAt 0 (postText (now (request .entry)) (now (result .entry))) (now (frame .entry)) ⌝ }
+    ensures { λ _. ⌜ now (frame .exit) ≡ stored 0 (postText (now (request .entry)) (now (result .entry))) (now (frame .entry)) ⌝ }
     ensures { λ r. ⌜ r ≤ longest ⌝ }
 {
     let answer = post_tells(request, result);

@@ -4,20 +4,17 @@ ghost use Prim.Native.Nat.{_+_, _≤_};
 ghost use lib.ListN.{length};
 ghost use Rattle.posting.specs.Decimal.{widthOf};
 ghost use Rattle.posting.specs.Lines.{numberThen, codeLine};
-ghost use Rattle.posting.specs.Puts.{putAt};
+ghost use Rattle.laws.specs.Stored.{stored};
 use numbers::base_ten;
+use text::parts;
 
 pub(crate) fn put_bytes(text: &mut [u8], at: usize, s: &[u8]) -> usize
     requires { ⌜ at + length (now s) ≤ length (now text) ⌝ }
     ensures { λ r. ⌜ r ≡ at + length (now (s .entry)) ⌝ }
-    ensures { λ _. ⌜ now (text .exit) ≡ putAt at (now (s .entry)) (now (text .entry)) ⌝ }
+    ensures { λ _. ⌜ now (text .exit) ≡ stored at (now (s .entry)) (now (text .entry)) ⌝ }
 {
-    let mut i = 0;
-    while i < s.len() {
-        text[at + i] = s[i];
-        i += 1;
-    }
-    at + i
+    parts::put(text, at, s);
+    at + s.len()
 }
 
 // How many digits n has.
@@ -41,7 +38,7 @@ fn width(n: u64) -> usize
 pub(crate) fn put_number(text: &mut [u8], at: usize, n: u64, end: u8) -> usize
     requires { ⌜ at + 21 ≤ length (now text) ⌝ }
     ensures { λ r. ⌜ r ≡ at + length (numberThen n end) ⌝ }
-    ensures { λ _. ⌜ now (text .exit) ≡ putAt at (numberThen n end) (now (text .entry)) ⌝ }
+    ensures { λ _. ⌜ now (text .exit) ≡ stored at (numberThen n end) (now (text .entry)) ⌝ }
     ensures { λ r. ⌜ r ≤ at + 21 ⌝ }
 {
     let w = width(n);
@@ -73,7 +70,7 @@ fn code_line(code: u64) -> [u8; 5]
 pub(crate) fn put_code(text: &mut [u8], at: usize, code: u64) -> usize
     requires { ⌜ at + 5 ≤ length (now text) ⌝ }
     ensures { λ r. ⌜ r ≡ at + length (codeLine code) ⌝ }
-    ensures { λ _. ⌜ now (text .exit) ≡ putAt at (codeLine code) (now (text .entry)) ⌝ }
+    ensures { λ _. ⌜ now (text .exit) ≡ stored at (codeLine code) (now (text .entry)) ⌝ }
     ensures { λ r. ⌜ r ≤ at + 5 ⌝ }
 {
     let line = code_line(code);

@@ -5,7 +5,7 @@ use mathlib.Core.Bool.{true, _&&_}
 use mathlib.Core.List.{List}
 use mathlib.Core.Path.{_≡_, refl}
 use native.Mathlib.Omega.{arith}
-use borrow.Author.Tests.{eqb-true, ne-eqb}
+use borrow.Author.Tests.{eqb-true}
 use lib.Dec.{leb, eqb}
 use lib.ListN.{length, getD}
 use Rattle.laws.specs.Part.{part}
@@ -24,10 +24,10 @@ use Rattle.answers.specs.Answers.{accepted}
 use Rattle.answers.proofs.Refusals.{number-of}
 use Rattle.layout.specs.Rules.{holds}
 use Rattle.records.specs.Records.{recordOf, countOf, dataOf, trailerOf}
-use Rattle.reader.specs.Judged.{roleOf}
 use Rattle.records.specs.Quantities.{quantityOf}
 use Rattle.reader.specs.Totals.{totalHolds}
 use Rattle.reader.specs.Reading.{readAs, readNamed, readOf}
+use Rattle.reader.proofs.Roles.{role-data}
 use Rattle.reader.specs.Meets.{Meets}
 use Rattle.reader.proofs.Exact.{read-exact, accepted-meets}
 
@@ -74,8 +74,6 @@ read-named kind s k e = rw e
 pub data-row :
     (k : Kind) (s : List ℕ) → Meets k s → (i : ℕ) → i < dataOf k s → (j : ℕ) → j < length (rowsOf k Data) →
     holds (k .own) (recordOf k s (i + 1)) (recordOf k s 0) (i + 1) (getD (rowsOf k Data) j blank) ≡ true
-unfolding roleOf
-data-row k s m i h j l = rw role at (m .rows (i + 1) (omega (arith, m .lengths .fewest)) j (rw role l))
-  where
-    role : roleOf (countOf k s) (i + 1) ≡ Data
-    role = rw (ne-eqb (i + 1) 0 (λ e. omega arith), ne-eqb (i + 1 + 1) (countOf k s) (λ e. omega (arith, m .lengths .fewest)))
+data-row k s m i h j l =
+    let role = role-data (countOf k s) (i + 1) (omega arith) (omega (arith, m .lengths .fewest)) in
+    rw role at (m .rows (i + 1) (omega (arith, m .lengths .fewest)) j (rw role l))

@@ -6,7 +6,6 @@ use mathlib.Core.List.{List}
 use mathlib.Core.Path.{_≡_, sym, _∙_, ap}
 use native.Mathlib.Nat.{le-antisymm, le-trans, lt-of-mul-lt-mul-right}
 use native.Mathlib.Omega.{arith}
-use borrow.Author.Tests.{eq-eqb, ne-eqb}
 use lib.ListN.{length, getD, take}
 use lib.Seq.{length-take-le}
 use Rattle.laws.specs.Part.{part}
@@ -15,7 +14,7 @@ use Rattle.text.proofs.Classes.{within-low, within-high, each-at}
 use Rattle.kinds.specs.declared.of_files.Kind.{Kind}
 use Rattle.kinds.specs.declared.of_files.Own.{Own}
 use Rattle.kinds.specs.declared.of_files.Role.the-variants.{Data, Trailer}
-use Rattle.tables.specs.declared.rows.Row.{Row}
+use Rattle.tables.specs.declared.row.Row.{Row}
 use Rattle.kinds.specs.Kinds.{fixedOf}
 use Rattle.tables.specs.Rows.{row, only, blank}
 use Rattle.tables.specs.Tables.{dataFront, trailerFront, rowsOf}
@@ -24,8 +23,8 @@ use Rattle.tables.proofs.Tiling.{size-least}
 use Rattle.answers.specs.Answers.{accepted}
 use Rattle.layout.specs.Rules.{meets, holds}
 use Rattle.records.specs.Records.{recordAt, recordOf, countOf}
-use Rattle.reader.specs.Judged.{roleOf}
 use Rattle.reader.specs.Reading.{readAs}
+use Rattle.reader.proofs.Roles.{role-data, role-trailer}
 use Rattle.reader.specs.Meets.{Meets}
 use Rattle.records.proofs.Places.{record-inside}
 use Rattle.reader.proofs.Exact.{read-exact}
@@ -63,24 +62,18 @@ module _ (k : Kind) (s : List ℕ) (m : Meets k s) where
 
   -- a data record begins with "R", the trailer with "T"
   pub data-mark : (i : ℕ) → 0 < i → i + 1 < countOf k s → getD (recordOf k s i) 0 0 ≡ 0x52
-  unfolding roleOf
   data-mark i p h =
+      let role = role-data (countOf k s) i p h in
       mark-byte (k .own) (recordOf k s i) (recordOf k s 0) i 0x52 0x30303831 (getD (rowsOf k Data) 0 blank) (data-first k)
       (omega (arith, size-least k, record-length i (omega arith)))
-      (rw (role i p h) at (m .rows i (omega arith) 0 (rw (role i p h) (data-some k))))
-    where
-      role : (i : ℕ) → 0 < i → i + 1 < countOf k s → roleOf (countOf k s) i ≡ Data
-      role i p h = rw (ne-eqb i 0 (λ e. omega arith), ne-eqb (i + 1) (countOf k s) (λ e. omega arith))
+      (rw role at (m .rows i (omega arith) 0 (rw role (data-some k))))
 
   pub trailer-mark : (i : ℕ) → 0 < i → i + 1 ≡ countOf k s → getD (recordOf k s i) 0 0 ≡ 0x54
-  unfolding roleOf
   trailer-mark i p e =
+      let role = role-trailer (countOf k s) i p e in
       mark-byte (k .own) (recordOf k s i) (recordOf k s 0) i 0x54 0x30303831 (getD (rowsOf k Trailer) 0 blank) (trailer-first k)
       (omega (arith, size-least k, record-length i (omega arith)))
-      (rw (role i p e) at (m .rows i (omega arith) 0 (rw (role i p e) (trailer-some k))))
-    where
-      role : (i : ℕ) → 0 < i → i + 1 ≡ countOf k s → roleOf (countOf k s) i ≡ Trailer
-      role i p e = rw (ne-eqb i 0 (λ z. omega arith), eq-eqb (i + 1) (countOf k s) e)
+      (rw role at (m .rows i (omega arith) 0 (rw role (trailer-some k))))
 
 -- *Cut short*
 pub cut-short : (k : Kind) (s : List ℕ) (m : ℕ) → m < length s → readAs k s ≡ accepted → readAs k (take m s) ≡ accepted → ⊥

@@ -1,5 +1,6 @@
 -- Laws about the definitions of specs/.
 pub mod Places
+pub mod Roles
 pub mod Lengths
 pub mod Stages
 pub mod Exact

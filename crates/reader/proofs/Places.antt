@@ -20,11 +20,11 @@ use Rattle.tables.specs.declared.totals.Total.{Total}
 use Rattle.kinds.specs.Kinds.{fixedFor, fixedOf}
 use Rattle.kinds.proofs.Forms.{of-form}
 use Rattle.tables.specs.Totals.{noTotal, enrolmentTotals, debitRequestTotals, debitResultTotals, totalsFor, totalsOf}
-use Rattle.records.specs.Records.{recordAt, countOf, dataOf}
+use Rattle.records.specs.Records.{recordAt, countOf, dataOf, keyAt}
 use Rattle.keys.specs.Keys.{sharesIn, repeatsIn}
 use Rattle.keys.specs.Stands.{keyIn, Inside}
 use Rattle.keys.proofs.Spaced.{spaced-start, spaced-key}
-use Rattle.reader.specs.Keys.{keyAt, spacingOf, sharesKey, repeats, repeatTold, keysTell}
+use Rattle.reader.specs.Keys.{spacingOf, sharesKey, repeats, repeatTold, keysTell}
 use Rattle.records.proofs.Places.{record-inside}
 
 -- a key lies inside its record

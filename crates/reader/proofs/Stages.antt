@@ -21,10 +21,10 @@ use Rattle.answers.proofs.Refusals.{number-of}
 use Rattle.answers.specs.Answers.{accepted, refusedAt}
 use Rattle.layout.specs.Judging.{judgeOf}
 use Rattle.layout.proofs.Judged.{judge-exact}
-use Rattle.records.specs.Records.{countOf, dataOf}
+use Rattle.records.specs.Records.{countOf, dataOf, keyAt}
 use Rattle.reader.specs.Judged.{judgedAt}
 use Rattle.reader.specs.Totals.{totalTells}
-use Rattle.reader.specs.Keys.{keyAt, sharesKey, repeats, repeatTold, keysTell}
+use Rattle.reader.specs.Keys.{sharesKey, repeats, repeatTold, keysTell}
 use Rattle.reader.specs.Meets.{rowsAt, rowHolds, totalAt, Distinct}
 
 module _ (k : Kind) (s : List ℕ) where

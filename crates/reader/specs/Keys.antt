@@ -4,17 +4,13 @@ use mathlib.Core.Bool.{Bool, cond}
 use mathlib.Core.List.{List}
 use lib.Dec.{ltb}
 use Rattle.laws.specs.Least.{least, some}
-use Rattle.laws.specs.Part.{part, same}
+use Rattle.laws.specs.Part.{same}
 use Rattle.answers.specs.declared.told.Answer.{Answer}
 use Rattle.kinds.specs.declared.of_files.Kind.{Kind}
 use Rattle.keys.specs.declared.stands.Spacing.{Spacing}
 use Rattle.answers.specs.Answers.{accepted, refusedAt}
 use Rattle.kinds.specs.Kinds.{fixedOf}
-use Rattle.records.specs.Records.{recordOf, dataOf}
-
--- the key of data record i + 1
-unfoldable pub keyAt : Kind → List ℕ → ℕ → List ℕ
-keyAt k s i = part (fixedOf k .key .start) (fixedOf k .key .size) (recordOf k s (i + 1))
+use Rattle.records.specs.Records.{dataOf, keyAt}
 
 -- where these keys stand in the file: one in each record, from the record after the header on
 abbrev pub spacingOf : Kind → Spacing

@@ -5,16 +5,15 @@ use mathlib.Core.List.{List}
 use mathlib.Core.Path.{_≡_}
 use lib.ListN.{length, getD}
 use Rattle.kinds.specs.declared.of_files.Kind.{Kind}
-use Rattle.tables.specs.declared.rows.Row.{Row}
+use Rattle.tables.specs.declared.row.Row.{Row}
 use Rattle.kinds.specs.Kinds.{fixedOf, limit}
 use Rattle.tables.specs.Rows.{blank}
 use Rattle.tables.specs.Tables.{rowsOf}
 use Rattle.tables.specs.Totals.{noTotal, totalsOf}
 use Rattle.layout.specs.Rules.{holds}
-use Rattle.records.specs.Records.{countOf, dataOf, recordOf}
+use Rattle.records.specs.Records.{countOf, dataOf, recordOf, keyAt}
 use Rattle.reader.specs.Judged.{roleOf}
 use Rattle.reader.specs.Totals.{totalHolds}
-use Rattle.reader.specs.Keys.{keyAt}
 
 -- whole records, at least two, at most the limit and two
 pub record Lengths (k : Kind) (s : List ℕ) : Type 0 where

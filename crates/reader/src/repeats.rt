@@ -38,7 +38,7 @@ pub fn first_repeat(s: &[u8], spacing: Spacing, n: usize) -> usize
 {
     let none: [u32; 0] = [];
     let mut numbers = [0u32; LIMIT];
-    let mut firsts = [0u16; table::SLOTS];
+    let mut firsts = [n as u16; table::SLOTS];
     table::fill(s, &none, spacing, n, &mut numbers, &mut firsts);
     repeats::first_repeat(s, &none, spacing, n, &numbers, &firsts)
 }

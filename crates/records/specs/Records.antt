@@ -23,3 +23,7 @@ dataOf k s = countOf k s - 2
 
 abbrev pub trailerOf : Kind → List ℕ → List ℕ
 trailerOf k s = recordOf k s (countOf k s - 1)
+
+-- the key of data record i + 1
+unfoldable pub keyAt : Kind → List ℕ → ℕ → List ℕ
+keyAt k s i = part (fixedOf k .key .start) (fixedOf k .key .size) (recordOf k s (i + 1))

@@ -16,7 +16,7 @@ use Rattle.laws.proofs.Leasts.{Least, least-is, least-only, least-same}
 use Rattle.kinds.specs.declared.of_files.Kind.{Kind}
 use Rattle.kinds.specs.declared.of_files.Form.{Form}
 use Rattle.kinds.specs.declared.of_files.Role.{Role}
-use Rattle.tables.specs.declared.rows.Row.{Row}
+use Rattle.tables.specs.declared.row.Row.{Row}
 use Rattle.kinds.specs.Kinds.{fixedOf}
 use Rattle.kinds.proofs.Forms.{of-record}
 use Rattle.tables.specs.Rows.{blank}
@@ -93,12 +93,15 @@ row-within k role i =
     (λ f. rw (List·getD-eq-default (rowsOf k role) blank {n = i} (ltb-false i (length (rowsOf k role)) f)) zero-le)
     (either (ltb i (length (rowsOf k role))))
 
--- a table that lays out a record's rows: its length, and that each of its rows, the blank ones too, lies inside the record
+-- a table that lays out a record's rows: its length, its rows, and that each of them, the blank ones too, lies inside the record
 module _ (k : Kind) (role : Role) (rows : List Row) (laid-out : rows ≡ laidOut (rowsOf k role)) where
   pub laid-length : length rows ≡ most
   unfolding laidOut
   laid-length = rw laid-out (as-long most (rowsOf k role))
 
-  pub laid-inside : (i : ℕ) → getD rows i blank .1 + getD rows i blank .2 ≤ fixedOf k .size
+  pub laid-row : (i : ℕ) → getD rows i blank ≡ getD (rowsOf k role) i blank
   unfolding laidOut
-  laid-inside i = rw (laid-out, at-place most (rowsOf k role) (rows-fit k role)) (row-within k role i)
+  laid-row i = rw laid-out (at-place most (rowsOf k role) (rows-fit k role) i)
+
+  pub laid-inside : (i : ℕ) → getD rows i blank .1 + getD rows i blank .2 ≤ fixedOf k .size
+  laid-inside i = rw (laid-row i) (row-within k role i)

@@ -1,7 +1,7 @@
 -- A record's rows over as many places as the longest table has, blank rows behind them.
 use Prim.Native.Nat.{ℕ, zero, suc}
 use mathlib.Core.List.{List, [], _∷_}
-use Rattle.tables.specs.declared.rows.Row.{Row}
+use Rattle.tables.specs.declared.row.Row.{Row}
 use Rattle.tables.specs.Rows.{blank}
 
 -- the first n rows, blank where there are fewer

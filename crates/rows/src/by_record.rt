@@ -5,8 +5,8 @@ ghost use Rattle.rows.specs.Laid.{laidOut};
 use kinds::of_files::Form;
 use kinds::of_files::Kind;
 use kinds::of_files::Role;
-use tables::rows::Class;
-use tables::rows::Row;
+use tables::row::Class;
+use tables::row::Row;
 
 // The most rows that a record has; shorter tables end in blank rows.
 pub const MOST: usize = 17;

@@ -10,7 +10,7 @@ use Rattle.kinds.specs.declared.of_files.Form.the-variants.{EnrolmentRequest, E
 use Rattle.kinds.specs.declared.of_files.Kind.{Kind}
 use Rattle.kinds.specs.declared.of_files.Role.{Role}
 use Rattle.kinds.specs.declared.of_files.Role.the-variants.{Header, Data, Trailer}
-use Rattle.tables.specs.declared.rows.Row.{Row}
+use Rattle.tables.specs.declared.row.Row.{Row}
 use Rattle.tables.specs.Rows.{blank}
 use Rattle.tables.specs.Tables.{headerFront, enrolmentHeader, debitHeader, dataFront, enrolmentData, debitData, enrolmentRequestData, enrolmentResultData, debitRequestData, debitResultData, trailerFront, enrolmentTrailer, enrolmentRequestTrailer, enrolmentResultTrailer, debitRequestTrailer, debitResultTrailer, rowsFor, rowsOf}
 

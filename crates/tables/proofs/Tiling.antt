@@ -14,7 +14,7 @@ use Rattle.laws.proofs.Bools.{and-left, and-right, or-cases}
 use Rattle.kinds.specs.declared.of_files.Kind.{Kind}
 use Rattle.kinds.specs.declared.of_files.Form.{Form}
 use Rattle.kinds.specs.declared.of_files.Role.{Role}
-use Rattle.tables.specs.declared.rows.Row.{Row}
+use Rattle.tables.specs.declared.row.Row.{Row}
 use Rattle.kinds.specs.Kinds.{fixedFor, fixedOf}
 use Rattle.kinds.proofs.Forms.{of-form, of-record}
 use Rattle.tables.specs.Rows.{blank, next, tilesFrom, tiles}

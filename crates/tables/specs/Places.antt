@@ -7,7 +7,7 @@ use Rattle.kinds.specs.declared.of_files.Form.{Form}
 use Rattle.kinds.specs.declared.of_files.Form.the-variants.{EnrolmentRequest, EnrolmentResult, DebitRequest, DebitResult}
 use Rattle.kinds.specs.declared.of_files.Role.the-variants.{Header, Data, Trailer}
 use Rattle.kinds.specs.Kinds.{front, fixedFor}
-use Rattle.tables.specs.declared.rows.Row.{Row}
+use Rattle.tables.specs.declared.row.Row.{Row}
 use Rattle.tables.specs.declared.totals.Total.{Total}
 use Rattle.tables.specs.declared.copied.Copied.{Copied}
 use Rattle.tables.specs.Copied.{noItem}

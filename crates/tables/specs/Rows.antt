@@ -3,9 +3,9 @@ use Prim.Native.Nat.{ℕ, _+_}
 use mathlib.Core.Bool.{Bool, _&&_, _||_}
 use mathlib.Core.List.{List, [], _∷_}
 use lib.Dec.{eqb}
-use Rattle.tables.specs.declared.rows.Row.{Row}
-use Rattle.tables.specs.declared.rows.Class.{Class}
-use Rattle.tables.specs.declared.rows.Class.the-variants.{Each}
+use Rattle.tables.specs.declared.row.Row.{Row}
+use Rattle.tables.specs.declared.row.Class.{Class}
+use Rattle.tables.specs.declared.row.Class.the-variants.{Each}
 
 abbrev pub row : ℕ → ℕ → ℕ → Class → ℕ → Row
 row item start size class code = record { 0 = item; 1 = start; 2 = size; 3 = class; 4 = code }

@@ -6,8 +6,8 @@ use Rattle.kinds.specs.declared.of_files.Form.{Form}
 use Rattle.kinds.specs.declared.of_files.Form.the-variants.{EnrolmentRequest, EnrolmentResult, DebitRequest, DebitResult}
 use Rattle.kinds.specs.declared.of_files.Role.{Role}
 use Rattle.kinds.specs.declared.of_files.Role.the-variants.{Header, Data, Trailer}
-use Rattle.tables.specs.declared.rows.Row.{Row}
-use Rattle.tables.specs.declared.rows.Class.the-variants.{Each, CodeText, Filled, Owner, Institution, KindName, Date, NameDate, Serial, AsHeader, NotLater, Application, NotZero, Failed, FailedOrPart, Least}
+use Rattle.tables.specs.declared.row.Row.{Row}
+use Rattle.tables.specs.declared.row.Class.the-variants.{Each, CodeText, Filled, Owner, Institution, KindName, Date, NameDate, Serial, AsHeader, NotLater, Application, NotZero, Failed, FailedOrPart, Least}
 use Rattle.tables.specs.Rows.{row, only, spaces, zeros, digits, free, passbook}
 
 -- codes as numbers; c0000 where breaking the rule is refusal 5

@@ -1,8 +1,9 @@
-// Parts of a slice, and whether two slices hold the same bytes.
+// Parts of a slice, whether two slices hold the same bytes, and bytes stored at a place.
 ghost use mathlib.Core.Path.{_≡_};
 ghost use Prim.Native.Nat.{_+_, _≤_, _<_};
 ghost use lib.ListN.{length, getD, drop};
 ghost use Rattle.laws.specs.Part.{part, same};
+ghost use Rattle.laws.specs.Stored.{stored};
 
 // The part of s that begins at start and is size bytes long.
 pub fn part(s: &[u8], start: usize, size: usize) -> &[u8]
@@ -50,4 +51,12 @@ pub fn same(a: &[u8], b: &[u8]) -> bool
         i += 1;
     }
     true
+}
+
+// Stores bytes at a place of a lent slice.
+pub fn put(room: &mut [u8], at: usize, bytes: &[u8])
+    requires { ⌜ at + length (now bytes) ≤ length (now room) ⌝ }
+    ensures { λ _. ⌜ now (room .exit) ≡ stored at (now (bytes .entry)) (now (room .entry)) ⌝ }
+{
+    bytes::copy(bytes, &mut room[at..]);
 }

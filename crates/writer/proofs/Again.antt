@@ -21,7 +21,7 @@ use Rattle.kinds.specs.declared.of_files.Form.{Form}
 use Rattle.kinds.specs.declared.of_files.Form.the-variants.{EnrolmentRequest, EnrolmentResult, DebitRequest, DebitResult}
 use Rattle.kinds.specs.declared.of_files.Own.{Own}
 use Rattle.kinds.specs.declared.of_files.Role.the-variants.{Header, Data, Trailer}
-use Rattle.tables.specs.declared.rows.Row.{Row}
+use Rattle.tables.specs.declared.row.Row.{Row}
 use Rattle.kinds.specs.Kinds.{fixedOf, fixedFor, kind}
 use Rattle.kinds.proofs.Forms.{of-form}
 use Rattle.tables.proofs.Fronts.{fronts, rows-front, front-row, front-some}
@@ -31,11 +31,11 @@ use Rattle.layout.specs.Items.{dateOf, nameDay}
 use Rattle.layout.specs.Rules.{meets, holds}
 use Rattle.layout.proofs.Judged.{All-hold}
 use Rattle.laws.specs.Tabulate.{tabulate}
-use Rattle.making.specs.Records.{givenItem, headerFill, headerByte, headerBuilt, frontFill, dataByte, dataBuilt, totalIs, totalFor, trailerFill, trailerByte, trailerBuilt}
+use Rattle.builder.specs.Records.{givenItem, headerFill, headerByte, headerBuilt, frontFill, dataByte, dataBuilt, totalIs, totalFor, trailerFill, trailerByte, trailerBuilt}
 use Rattle.writer.specs.Apart.{headFrom}
 use Rattle.laws.proofs.Tabs.{tab-length, tab-at}
 use Rattle.writer.specs.Says.{Bytes}
-use Rattle.making.proofs.Sizes.{body-size}
+use Rattle.builder.proofs.Sizes.{body-size}
 use Rattle.writer.proofs.Held.{part-place, All, end, _also_, all-every, Back, back-at, given-back, only-back, same-back, says-back, total-back, word-back}
 
 -- a list is what is tabulated, if it has these bytes

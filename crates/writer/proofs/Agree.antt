@@ -8,10 +8,10 @@ use mathlib.Core.Logic.{⊎-elim}
 use native.Mathlib.Omega.{arith}
 use borrow.Author.Tests.{leb-true, leb-false}
 use lib.Dec.{leb, eqb}
-use lib.ListN.{length, getD}
+use lib.ListN.{getD}
 use Rattle.laws.proofs.Bools.{either, clash}
 use Rattle.kinds.specs.declared.of_files.Kind.{Kind}
-use Rattle.tables.specs.declared.rows.Row.{Row}
+use Rattle.tables.specs.declared.row.Row.{Row}
 use Rattle.kinds.specs.Kinds.{fixedOf, limit}
 use Rattle.tables.specs.Rows.{blank}
 use Rattle.answers.specs.declared.told.Answer.{Answer}
@@ -22,11 +22,11 @@ use Rattle.reader.specs.Meets.{Lengths, rowsAt}
 use Rattle.reader.specs.First.{Says}
 use Rattle.reader.proofs.Exact.{first-refusal}
 use Rattle.reader.proofs.Lengths.{good-length, length-short}
-use Rattle.making.specs.Records.{Head, bodyCount}
-use Rattle.making.specs.Files.{fileOf}
+use Rattle.builder.specs.Records.{Head, bodyCount}
+use Rattle.builder.specs.Files.{fileOf}
 use Rattle.writer.specs.Writing.{writeAs}
 use Rattle.writer.specs.Says.{fitting, writersOwn, Tells}
-use Rattle.making.proofs.Built.{file-length}
+use Rattle.builder.proofs.Built.{file-length}
 use Rattle.writer.proofs.Taken.{file-count}
 
 -- a file to be written has a length that the reader takes

@@ -5,7 +5,7 @@ use mathlib.Core.List.{List, [], _++_}
 use mathlib.Core.Path.{_≡_, sym, _∙_, ap}
 use native.Mathlib.Nat.{le-of-eq}
 use native.Mathlib.Omega.{arith}
-use borrow.Author.Tests.{eq-eqb, ne-eqb, lt-ltb}
+use borrow.Author.Tests.{lt-ltb}
 use lib.Dec.{ltb}
 use lib.ListN.{length, getD, length-append}
 use lib.Seq.{take-all}
@@ -16,31 +16,31 @@ use Rattle.laws.proofs.Leasts.{least-same}
 use Rattle.laws.proofs.Sums.{sum-same}
 use Rattle.laws.proofs.Tabs.{tab-at}
 use Rattle.kinds.specs.declared.of_files.Kind.{Kind}
-use Rattle.kinds.specs.declared.of_files.Role.the-variants.{Data, Trailer}
 use Rattle.kinds.specs.Kinds.{fixedOf, limit}
 use Rattle.tables.specs.declared.totals.Quantity.{Quantity}
 use Rattle.tables.specs.Totals.{noTotal, totalsOf}
 use Rattle.answers.specs.Answers.{_then_}
 use Rattle.answers.proofs.Refusals.{number-of, then-second}
-use Rattle.records.specs.Records.{recordAt, recordOf, countOf}
+use Rattle.records.specs.Records.{recordAt, recordOf, countOf, keyAt}
 use Rattle.records.specs.Quantities.{worth, worthAt, quantityOf}
 use Rattle.keys.specs.Keys.{sharesIn, repeatsIn}
 use Rattle.keys.specs.Stands.{keyIn, Inside}
 use Rattle.keys.proofs.Spaced.{spaced-start, spaced-key}
 use Rattle.reader.specs.Judged.{roleOf, judgedAt, recordsTell}
 use Rattle.reader.specs.Totals.{totalHolds, totalTells, totalsTell}
-use Rattle.reader.specs.Keys.{keyAt, sharesKey, repeats, repeatTold, keysTell}
+use Rattle.reader.specs.Keys.{sharesKey, repeats, repeatTold, keysTell}
 use Rattle.reader.specs.Reading.{readAs}
 use Rattle.reader.proofs.Lengths.{good-length}
 use Rattle.reader.proofs.Places.{key-inside}
-use Rattle.making.specs.Records.{Head, headerBuilt, bodyCount, builtWorth, builtQuantity, builtTotal, builtTotals, trailerBuilt}
-use Rattle.making.specs.Files.{frontOf, fileOf}
-use Rattle.making.proofs.Bodies.{body-inside, built-part}
-use Rattle.making.proofs.Built.{file-length}
-use Rattle.making.proofs.Lengths.{trailer-length}
-use Rattle.making.proofs.Rows.{totals-few}
-use Rattle.making.proofs.Sizes.{body-size, key-behind, one-more}
-use Rattle.making.proofs.Stores.{part-behind}
+use Rattle.reader.proofs.Roles.{role-data, role-trailer}
+use Rattle.builder.specs.Records.{Head, headerBuilt, bodyCount, builtWorth, builtQuantity, builtTotal, builtTotals, trailerBuilt}
+use Rattle.builder.specs.Files.{frontOf, fileOf}
+use Rattle.builder.proofs.Bodies.{body-inside, built-part}
+use Rattle.builder.proofs.Built.{file-length}
+use Rattle.builder.proofs.Lengths.{trailer-length}
+use Rattle.builder.proofs.Rows.{totals-few}
+use Rattle.builder.proofs.Sizes.{body-size, key-behind, one-more}
+use Rattle.builder.proofs.Stores.{part-behind}
 use Rattle.writer.specs.Writing.{bodySpacing, headerTold, dataTold, trailerTold, sumTold, sumsTold, keysTold, builtTold}
 use Rattle.writer.proofs.Taken.{file-count, file-header, file-data}
 use Rattle.writer.proofs.Agree.{file-lengths}
@@ -105,18 +105,12 @@ module _ (k : Kind) (h : Head) (bodies : List ℕ) where
   judged-header = rw (file-header k h bodies)
 
   judged-data : (i : ℕ) → i < n → judgedAt k s (i + 1) ≡ dataTold k H bodies i
-  unfolding judgedAt dataTold roleOf
-  judged-data i l = rw (role, file-data k h bodies i l, file-header k h bodies)
-    where
-      role : roleOf (countOf k s) (i + 1) ≡ Data
-      role = rw (ne-eqb (i + 1) 0 (λ e. omega arith), ne-eqb (i + 1 + 1) (countOf k s) (λ e. omega (arith, file-count k h bodies)))
+  unfolding judgedAt dataTold
+  judged-data i l = rw (role-data (countOf k s) (i + 1) (omega arith) (omega (arith, file-count k h bodies)), file-data k h bodies i l, file-header k h bodies)
 
   judged-trailer : judgedAt k s (n + 1) ≡ trailerTold k H sums n
-  unfolding judgedAt trailerTold roleOf
-  judged-trailer = rw (role, file-trailer, file-header k h bodies)
-    where
-      role : roleOf (countOf k s) (n + 1) ≡ Trailer
-      role = rw (ne-eqb (n + 1) 0 (λ e. omega arith), eq-eqb (n + 1 + 1) (countOf k s) (omega (arith, file-count k h bodies)))
+  unfolding judgedAt trailerTold
+  judged-trailer = rw (role-trailer (countOf k s) (n + 1) (omega arith) (omega (arith, file-count k h bodies)), file-trailer, file-header k h bodies)
 
   -- the totals by the sums
   total-told : (t : ℕ) → t < length (totalsOf k) → totalTells k s t ≡ sumTold k T sums (n + 1) t

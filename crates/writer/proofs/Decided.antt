@@ -13,8 +13,8 @@ use Rattle.answers.specs.declared.told.Answer.{Answer}
 use Rattle.answers.specs.Answers.{refuses, firstTold, _then_}
 use Rattle.answers.proofs.Refusals.{refuses-zero, refuses-other, then-first, then-second}
 use Rattle.reader.specs.Reading.{readAs}
-use Rattle.making.specs.Records.{Head, headerBuilt, bodyCount, builtTotals, trailerBuilt}
-use Rattle.making.specs.Files.{fileOf}
+use Rattle.builder.specs.Records.{Head, headerBuilt, bodyCount, builtTotals, trailerBuilt}
+use Rattle.builder.specs.Files.{fileOf}
 use Rattle.writer.specs.Writing.{headerTold, dataTold, trailerTold, sumTo, sumsTold, keysTold, builtTold}
 use Rattle.writer.proofs.Built.{read-built}
 use Rattle.writer.proofs.Summed.{sums-end}

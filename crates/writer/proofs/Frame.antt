@@ -13,9 +13,9 @@ use Rattle.kinds.specs.declared.of_files.Kind.{Kind}
 use Rattle.kinds.specs.Kinds.{fixedOf}
 use Rattle.records.specs.Records.{recordAt, recordOf, countOf}
 use Rattle.records.proofs.Places.{size-pos}
-use Rattle.making.specs.Files.{stored}
-use Rattle.making.proofs.Sizes.{size-most}
-use Rattle.making.proofs.Stores.{part-front, part-behind}
+use Rattle.laws.specs.Stored.{stored}
+use Rattle.builder.proofs.Sizes.{size-most}
+use Rattle.builder.proofs.Stores.{part-front, part-behind}
 
 -- there is room for three
 pub frame-count : (k : Kind) (f : List ℕ) → 450 ≤ length f → 3 ≤ countOf k f

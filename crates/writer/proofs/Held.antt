@@ -20,16 +20,16 @@ use Rattle.numbers.proofs.Values.{digits-value}
 use Rattle.reader.proofs.Accepted.{says-value}
 use Rattle.kinds.specs.declared.of_files.Kind.{Kind}
 use Rattle.kinds.specs.declared.of_files.Role.{Role}
-use Rattle.tables.specs.declared.rows.Row.{Row}
+use Rattle.tables.specs.declared.row.Row.{Row}
 use Rattle.kinds.specs.Kinds.{fixedOf}
 use Rattle.tables.specs.Rows.{blank}
 use Rattle.tables.specs.Tables.{rowsOf}
 use Rattle.tables.proofs.Tiling.{row-inside}
 use Rattle.layout.specs.Rules.{holds}
 use Rattle.layout.proofs.Judged.{All-hold}
-use Rattle.making.specs.Bytes.{rowOver}
+use Rattle.builder.specs.Bytes.{rowOver}
 use Rattle.writer.specs.Says.{Bytes}
-use Rattle.making.proofs.Over.{row-over}
+use Rattle.builder.proofs.Over.{row-over}
 
 -- a place of a part
 pub part-place : (s : List ℕ) (a m j : ℕ) → a ≤ j → j < a + m → getD (part a m s) (j - a) 0 ≡ getD s j 0

@@ -9,8 +9,8 @@ use Rattle.kinds.specs.Kinds.{kindOf}
 use Rattle.reader.specs.Meets.{Meets}
 use Rattle.reader.proofs.Exact.{read-exact}
 use Rattle.reader.proofs.OneKind.{one-kind}
-use Rattle.making.specs.Records.{Head}
-use Rattle.making.specs.Files.{fileOf}
+use Rattle.builder.specs.Records.{Head}
+use Rattle.builder.specs.Files.{fileOf}
 use Rattle.writer.specs.Writing.{writeAs}
 use Rattle.writer.proofs.Trips.{write-good, no-two}
 

@@ -35,15 +35,15 @@ use Rattle.records.proofs.Places.{record-inside}
 use Rattle.reader.proofs.Cut.{record-length}
 use Rattle.reader.proofs.Exact.{read-exact, accepted-meets}
 use Rattle.reader.proofs.Accepted.{read-named}
-use Rattle.making.specs.Records.{headerBuilt, bodyCount, dataBuilt, builtWorth, builtQuantity, builtTotal, builtTotals, trailerBuilt}
-use Rattle.making.specs.Files.{frontOf, fileOf}
+use Rattle.builder.specs.Records.{headerBuilt, bodyCount, dataBuilt, builtWorth, builtQuantity, builtTotal, builtTotals, trailerBuilt}
+use Rattle.builder.specs.Files.{frontOf, fileOf}
 use Rattle.writer.specs.Writing.{writeAs, afterAs, writeOf, roomAfter}
 use Rattle.kinds.specs.Kinds.{requestOf}
 use Rattle.writer.specs.Apart.{headIn, bodyAt, bodiesIn}
 use Rattle.writer.specs.Says.{Bytes}
-use Rattle.making.proofs.Rows.{totals-few}
+use Rattle.builder.proofs.Rows.{totals-few}
 use Rattle.laws.proofs.Tabs.{tab-at}
-use Rattle.making.proofs.Sizes.{body-size}
+use Rattle.builder.proofs.Sizes.{body-size}
 use Rattle.writer.proofs.Sizes.{item6-inside, item7-inside}
 use Rattle.writer.proofs.Taken.{Fits, each-fits, bodies-sized, bodies-length}
 use Rattle.writer.proofs.Requests.{request-kind, request-written}

@@ -17,7 +17,7 @@ use Rattle.kinds.specs.declared.of_files.Form.the-variants.{EnrolmentRequest, E
 use Rattle.kinds.specs.declared.of_files.Own.{Own}
 use Rattle.kinds.specs.declared.of_files.Named.{Named}
 use Rattle.kinds.specs.declared.of_files.Named.the-variants.{Is, Unknown}
-use Rattle.tables.specs.declared.rows.Row.{Row}
+use Rattle.tables.specs.declared.row.Row.{Row}
 use Rattle.tables.specs.declared.totals.Quantity.{Quantity}
 use Rattle.tables.specs.declared.totals.Quantity.the-variants.{OfKind, Amounts}
 use Rattle.kinds.specs.Kinds.{fixedOf, kind, limit}
@@ -35,12 +35,12 @@ use Rattle.reader.specs.Meets.{Lengths, rowsAt, RowsHold, totalAt, TotalsHold}
 use Rattle.reader.specs.First.{Says}
 use Rattle.reader.proofs.Exact.{first-refusal}
 use Rattle.reader.proofs.Lengths.{good-length, length-short}
-use Rattle.making.specs.Records.{Head, bodyCount}
-use Rattle.making.specs.Files.{fileOf}
+use Rattle.builder.specs.Records.{Head, bodyCount}
+use Rattle.builder.specs.Files.{fileOf}
 use Rattle.writer.specs.Writing.{writeAs, writeNamed, writeOf}
 use Rattle.kinds.specs.Kinds.{requestOf}
 use Rattle.writer.specs.Says.{Tells, TooMuch, OnlyDebit}
-use Rattle.making.proofs.Built.{file-length}
+use Rattle.builder.proofs.Built.{file-length}
 use Rattle.writer.proofs.Requests.{request-written}
 use Rattle.writer.proofs.Taken.{file-count}
 use Rattle.writer.proofs.Agree.{file-lengths, writer-tells}

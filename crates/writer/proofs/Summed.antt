@@ -24,7 +24,7 @@ use Rattle.layout.specs.Items.{applicationOf, amountOf, markOf}
 use Rattle.numbers.specs.Numbers.{valueOf}
 use Rattle.numbers.proofs.Values.{value-within}
 use Rattle.records.specs.Quantities.{worth}
-use Rattle.making.specs.Records.{dataBuilt, bodyCount, builtWorth, builtQuantity, builtTotal, builtTotals}
+use Rattle.builder.specs.Records.{dataBuilt, bodyCount, builtWorth, builtQuantity, builtTotal, builtTotals}
 use Rattle.writer.specs.Writing.{worthFor, worthBuilt, sumTo, sumWith}
 
 tab-within : (f g : ℕ → ℕ) (n : ℕ) → ((j : ℕ) → j < n → f j ≡ g j) → tabulate f n ≡ tabulate g n

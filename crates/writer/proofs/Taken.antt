@@ -4,10 +4,10 @@ use Prim.Native.Nat.{ℕ, _+_, _-_, _*_, _%_, _≤_, _<_}
 use mathlib.Core.Bool.{true, _&&_}
 use mathlib.Core.List.{List, [], _∷_, _++_, append-assoc}
 use mathlib.Core.Path.{_≡_, refl, sym, _∙_, ap}
-use native.Mathlib.Nat.{le-of-eq, zero-mul, suc-mul, add-comm, mul-div-cancel, div-mul-le-self, div-add-mod', mul-mod-left}
+use native.Mathlib.Nat.{le-of-eq, zero-mul, suc-mul, add-comm, mul-div-cancel, div-add-mod', mul-mod-left}
 use native.Mathlib.Numerals.{add-one}
 use native.Mathlib.Omega.{arith}
-use borrow.Author.Tests.{eqb-true, eq-eqb, le-ltb}
+use borrow.Author.Tests.{eqb-true, eq-eqb}
 use lib.Dec.{eqb}
 use lib.ListN.{length, getD}
 use lib.Seq.{ext-getD, take-all, take-at}
@@ -22,24 +22,25 @@ use Rattle.kinds.specs.declared.of_files.Form.{Form}
 use Rattle.kinds.specs.declared.of_files.Form.the-variants.{EnrolmentRequest, EnrolmentResult, DebitRequest, DebitResult}
 use Rattle.kinds.specs.declared.of_files.Own.{Own}
 use Rattle.kinds.specs.declared.of_files.Role.the-variants.{Header}
-use Rattle.tables.specs.declared.rows.Row.{Row}
+use Rattle.tables.specs.declared.row.Row.{Row}
 use Rattle.kinds.specs.Kinds.{fixedOf, fixedFor, kind}
 use Rattle.tables.specs.Rows.{blank}
 use Rattle.tables.specs.Tables.{headerFront, enrolmentHeader, debitHeader, rowsOf}
 use Rattle.records.specs.Records.{recordAt, recordOf, countOf, dataOf}
 use Rattle.records.proofs.Places.{record-inside, size-pos}
-use Rattle.making.specs.Bytes.{fillBy}
-use Rattle.making.specs.Records.{Head, givenItem, headerFill, headerByte, headerBuilt, bodyCount, dataByte, dataBuilt, builtTotals, trailerBuilt}
-use Rattle.making.specs.Files.{frontOf, fileOf}
+use Rattle.builder.specs.Bytes.{fillBy}
+use Rattle.builder.specs.Records.{Head, givenItem, headerFill, headerByte, headerBuilt, bodyCount, dataBuilt, builtTotals, trailerBuilt}
+use Rattle.builder.specs.Files.{frontOf, fileOf}
 use Rattle.writer.specs.Writing.{partsFit}
 use Rattle.writer.specs.Apart.{headFrom, headIn, bodyAt, bodiesIn}
 use Rattle.writer.specs.Says.{fitting}
-use Rattle.making.proofs.Lengths.{header-length, data-length}
+use Rattle.builder.proofs.Bodies.{built-part}
+use Rattle.builder.proofs.Lengths.{header-length, data-length}
 use Rattle.laws.proofs.Tabs.{tab-at}
-use Rattle.making.proofs.Stores.{part-front, part-behind}
-use Rattle.making.proofs.Built.{file-length}
-use Rattle.making.proofs.Sizes.{body-size}
-use Rattle.making.proofs.Over.{starts, endsPast, starts-over}
+use Rattle.builder.proofs.Stores.{part-front, part-behind}
+use Rattle.builder.proofs.Built.{file-length}
+use Rattle.builder.proofs.Sizes.{body-size}
+use Rattle.builder.proofs.Over.{starts, endsPast, starts-over}
 
 -- of any file, each body is as long as its kind says, and so are all together
 pub bodies-sized : (k : Kind) (s : List ℕ) → Sized (bodyAt k s) (fixedOf k .body) (dataOf k s)
@@ -163,30 +164,8 @@ module _ (k : Kind) (h : Head) (bodies : List ℕ) where
 body-built :
     (k : Kind) (header bodies : List ℕ) (i : ℕ) → i < bodyCount k bodies →
     part 19 (fixedOf k .body) (dataBuilt k header bodies i) ≡ part (i * fixedOf k .body) (fixedOf k .body) bodies
-unfolding bodyCount dataBuilt dataByte
-body-built k header bodies i l = ext-getD 0 (part 19 b rec) (part (i * b) b bodies) (long ∙ sym given) same
-  where
-    b : ℕ
-    b = fixedOf k .body
-
-    rec : List ℕ
-    rec = dataBuilt k header bodies i
-
-    long : length (part 19 b rec) ≡ b
-    long = part-length 19 b rec (rw (data-length k header bodies i) (le-of-eq (body-size k)))
-
-    given : length (part (i * b) b bodies) ≡ b
-    given = part-length (i * b) b bodies (omega (arith, size-below i (bodyCount k bodies) b l, div-mul-le-self (length bodies) b))
-
-    same : (d : ℕ) → d < length (part 19 b rec) → getD (part 19 b rec) d 0 ≡ getD (part (i * b) b bodies) d 0
-    same d m =
-        let s : d < b = omega (arith, long) in
-        rw (
-          part-at 19 b rec d s,
-          part-at (i * b) b bodies d s,
-          tab-at (dataByte k header bodies i) (fixedOf k .size) (19 + d) (omega (arith, body-size k)),
-          le-ltb (19 + d) 19 (omega arith),
-        ) (ap (λ (x : ℕ). getD bodies x 0) (omega arith))
+body-built k header bodies i l =
+    built-part k header bodies i 19 (fixedOf k .body) l (omega arith) (le-of-eq (body-size k)) ∙ ap (λ (a : ℕ). part a (fixedOf k .body) bodies) (omega arith)
 
 -- the same, one by one
 pub record Fits (k : Kind) (h : Head) (bodies : List ℕ) : Type 0 where

@@ -1,6 +1,6 @@
 -- The totals of a file to be written: each item says its quantity as long as it has digits enough.
 -- Assumes nothing.
-use Prim.Native.Nat.{ℕ, zero, suc, _+_, _-_, _*_, _^_, _≤_, _<_}
+use Prim.Native.Nat.{ℕ, zero, suc, _+_, _-_, _^_, _≤_, _<_}
 use mathlib.Core.Bool.{true}
 use mathlib.Core.List.{List}
 use mathlib.Core.Path.{_≡_, refl, sym, _∙_, ap}
@@ -22,7 +22,7 @@ use Rattle.kinds.specs.declared.of_files.Form.{Form}
 use Rattle.kinds.specs.declared.of_files.Form.the-variants.{EnrolmentRequest, EnrolmentResult, DebitRequest, DebitResult}
 use Rattle.kinds.specs.declared.of_files.Own.{Own}
 use Rattle.kinds.specs.declared.of_files.Role.the-variants.{Trailer}
-use Rattle.tables.specs.declared.rows.Row.{Row}
+use Rattle.tables.specs.declared.row.Row.{Row}
 use Rattle.tables.specs.declared.totals.Total.{Total}
 use Rattle.kinds.specs.Kinds.{kind, fixedFor, fixedOf}
 use Rattle.tables.specs.Rows.{blank}
@@ -32,12 +32,12 @@ use Rattle.records.specs.Records.{recordOf, trailerOf}
 use Rattle.records.specs.Quantities.{quantityOf}
 use Rattle.reader.specs.Totals.{totalHolds}
 use Rattle.reader.specs.Meets.{totalAt}
-use Rattle.making.specs.Bytes.{fillBy}
-use Rattle.making.specs.Records.{Head, headerBuilt, builtQuantity, builtTotal, builtTotals, totalIs, totalFor, trailerFill, trailerByte, trailerBuilt}
-use Rattle.making.specs.Files.{fileOf}
-use Rattle.making.proofs.Lengths.{trailer-length}
-use Rattle.making.proofs.Over.{starts, endsPast, starts-over}
-use Rattle.making.proofs.Rows.{totals-few}
+use Rattle.builder.specs.Bytes.{fillBy}
+use Rattle.builder.specs.Records.{Head, headerBuilt, builtQuantity, builtTotal, builtTotals, totalIs, totalFor, trailerFill, trailerByte, trailerBuilt}
+use Rattle.builder.specs.Files.{fileOf}
+use Rattle.builder.proofs.Lengths.{trailer-length}
+use Rattle.builder.proofs.Over.{starts, endsPast, starts-over}
+use Rattle.builder.proofs.Rows.{totals-few}
 use Rattle.kinds.proofs.Forms.{of-form}
 use Rattle.laws.proofs.Every.{every, every-at}
 use Rattle.writer.proofs.Built.{file-trailer, file-quantity}

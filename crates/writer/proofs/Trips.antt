@@ -16,8 +16,8 @@ use Rattle.answers.specs.Answers.{accepted}
 use Rattle.reader.specs.Reading.{readAs}
 use Rattle.reader.proofs.Exact.{read-exact, accepted-meets}
 use Rattle.reader.proofs.Accepted.{read-named}
-use Rattle.making.specs.Records.{Head}
-use Rattle.making.specs.Files.{fileOf}
+use Rattle.builder.specs.Records.{Head}
+use Rattle.builder.specs.Files.{fileOf}
 use Rattle.writer.specs.Writing.{writeAs, afterAs, writeNamed, writeOf, afterNamed, roomAfter}
 use Rattle.kinds.specs.Kinds.{requestOf}
 use Rattle.writer.specs.Apart.{headIn, bodiesIn}

@@ -12,10 +12,10 @@ use Rattle.kinds.specs.Kinds.{fixedOf, limit}
 use Rattle.answers.specs.declared.told.Answer.{Answer}
 use Rattle.answers.specs.Answers.{refused}
 use Rattle.reader.specs.Reading.{readAs}
-use Rattle.making.specs.Records.{Head, bodyCount}
-use Rattle.making.specs.Files.{fileOf}
+use Rattle.builder.specs.Records.{Head, bodyCount}
+use Rattle.builder.specs.Files.{fileOf}
 use Rattle.writer.specs.Writing.{partsFit, writeAs, afterAs}
-use Rattle.making.proofs.Built.{file-length}
+use Rattle.builder.proofs.Built.{file-length}
 
 module _ (k : Kind) (h : Head) (bodies room : List ℕ) where
   -- a refusal leaves the room as it was; what is accepted stands at its front

@@ -8,7 +8,7 @@ use Rattle.kinds.specs.Kinds.{front, fixedOf}
 use Rattle.tables.specs.Places.{codePlace, branchPlace, accountPlace}
 use Rattle.layout.specs.Items.{bytesAt, dateOf}
 use Rattle.records.specs.Records.{recordOf, dataOf}
-use Rattle.making.specs.Records.{Head, headOf}
+use Rattle.builder.specs.Records.{Head, headOf}
 
 -- what a header is written from, of a header: items 5, 3, 6 and 7
 abbrev pub headFrom : Kind → List ℕ → Head

@@ -16,8 +16,8 @@ use Rattle.records.specs.Records.{countOf}
 use Rattle.records.specs.Quantities.{quantityOf}
 use Rattle.reader.specs.Reading.{readAs, readOf}
 use Rattle.reader.specs.Meets.{RowsHold}
-use Rattle.making.specs.Records.{Head, bodyCount}
-use Rattle.making.specs.Files.{fileOf}
+use Rattle.builder.specs.Records.{Head, bodyCount}
+use Rattle.builder.specs.Files.{fileOf}
 use Rattle.writer.specs.Writing.{partsFit, roomAfter}
 use Rattle.kinds.specs.Kinds.{requestOf}
 use Rattle.writer.specs.Apart.{headIn, bodiesIn}

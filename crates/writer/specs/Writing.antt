@@ -24,8 +24,8 @@ use Rattle.keys.specs.Keys.{repeatsIn}
 use Rattle.keys.specs.Stands.{keyIn}
 use Rattle.reader.specs.Keys.{repeatTold}
 use Rattle.reader.specs.Reading.{readAs}
-use Rattle.making.specs.Records.{Head, bodyCount, dataBuilt, builtTotals, trailerBuilt}
-use Rattle.making.specs.Files.{fileOf}
+use Rattle.builder.specs.Records.{Head, bodyCount, dataBuilt, builtTotals, trailerBuilt}
+use Rattle.builder.specs.Files.{fileOf}
 
 -- every part is as long as its item, and the bodies are whole
 unfoldable pub partsFit : Head → List ℕ → ℕ → ℕ → ℕ → Bool

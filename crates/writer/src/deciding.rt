@@ -1,6 +1,6 @@
 // What reading the file to be written says, told by its records as they are built, one by one.
 ghost use mathlib.Core.Path.{_≡_};
-ghost use Prim.Native.Nat.{ℕ, _+_, _≤_, _<_};
+ghost use Prim.Native.Nat.{_+_, _≤_, _<_};
 ghost use lib.ListN.{length};
 ghost use Rattle.laws.specs.Tabulate.{tabulate};
 ghost use Rattle.kinds.specs.Kinds.{limit};
@@ -8,17 +8,17 @@ ghost use Rattle.answers.specs.Answers.{firstTold, _then_};
 ghost use Rattle.layout.specs.Judging.{judgeOf};
 ghost use Rattle.records.specs.Records.{recordOf, countOf};
 ghost use Rattle.reader.specs.Reading.{readAs};
-ghost use Rattle.making.specs.Records.{headOf, headerBuilt, bodyCount, dataBuilt, trailerBuilt};
-ghost use Rattle.making.specs.Files.{fileOf};
+ghost use Rattle.builder.specs.Records.{headOf, headerBuilt, bodyCount, dataBuilt, trailerBuilt};
+ghost use Rattle.builder.specs.Files.{fileOf};
 ghost use Rattle.writer.specs.Writing.{headerTold, dataTold, trailerTold, sumsTold, sumTo};
 use crate::keys_built;
 use crate::sums;
 use answers::told::Answer;
+use builder::files;
 use kinds::of_files::Fixed;
 use kinds::of_files::Kind;
 use kinds::of_files::Role;
 use layout::judging;
-use making::files;
 use records::listed;
 
 // Three records: the header, the data record that was built last, the trailer.

@@ -1,12 +1,8 @@
 // No two bodies share a key.
 ghost use mathlib.Core.Path.{_≡_};
-ghost use mathlib.Core.List.{[]};
 ghost use Prim.Native.Nat.{_≤_};
-ghost use Rattle.laws.specs.Least.{least};
 ghost use Rattle.kinds.specs.Kinds.{limit};
-ghost use Rattle.keys.specs.Keys.{repeatsIn};
-ghost use Rattle.keys.specs.Stands.{keyIn};
-ghost use Rattle.making.specs.Records.{bodyCount};
+ghost use Rattle.builder.specs.Records.{bodyCount};
 ghost use Rattle.writer.specs.Writing.{bodySpacing, keysTold};
 use answers::told::Answer;
 use keys::stands::Spacing;

@@ -2,16 +2,16 @@
 ghost use mathlib.Core.Path.{_≡_};
 ghost use Prim.Native.Nat.{_<_};
 ghost use lib.ListN.{length};
-ghost use Rattle.making.specs.Records.{headOf, bodyCount};
+ghost use Rattle.builder.specs.Records.{headOf, bodyCount};
 ghost use Rattle.writer.specs.Writing.{partsFit, writeAs, afterAs, writeOf, roomAfter};
 use crate::deciding;
 use answers::told::Answer;
+use builder::files;
 use kinds::of_files;
 use kinds::of_files::Fixed;
 use kinds::of_files::Kind;
 use kinds::of_files::LIMIT;
 use kinds::of_files::Named;
-use making::files;
 
 // Every part is as long as its item, and the bodies are whole.
 fn parts_fit(

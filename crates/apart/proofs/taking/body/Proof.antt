@@ -3,7 +3,7 @@ use mathlib.Core.Path.{sym, _∙_}
 use native.Mathlib.Omega.{arith}
 use borrow.Author.Needs.{needs}
 use Rattle.laws.specs.Part.{part}
-use Rattle.making.proofs.Sizes.{body-size}
+use Rattle.builder.proofs.Sizes.{body-size}
 use Rattle.writer.specs.Apart.{bodyAt}
 use Rattle.apart.proofs.Bodies.{body-is, body-none}
 use Rattle.apart.proofs.taking.body.Statement.{statement}

@@ -1,6 +1,6 @@
 -- One body after the other; where each begins is far below what a number can hold.
 use Prim.Native.Nat.{_-_, _≤_}
-use Rattle.making.proofs.Rows.{body-fits}
+use Rattle.builder.proofs.Rows.{body-fits}
 use borrow.Author.Needs.{needs}
 use lib.ListN.{length}
 use mathlib.Core.Path.{_≡_}

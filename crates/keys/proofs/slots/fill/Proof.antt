@@ -1,7 +1,7 @@
 -- From the last number to the first, so that the first that goes to a slot stays in it.
 use Prim.Native.Nat.{_-_, _≤_, _<_, zero-le}
 use Rattle.keys.proofs.Filling.{Filled, filled-start, filled-more, filled-end}
-use lib.ListN.{length, length-set, length-replicate}
+use lib.ListN.{length, length-set}
 use mathlib.Core.Path.{_≡_, refl}
 use native.Mathlib.Nat.{le-antisymm, le-refl}
 use native.Mathlib.Omega.{arith}
@@ -15,16 +15,10 @@ Inv-loop hashes n slots₀ i₀ slots i = (i ≤ n) × (length slots ≡ length 
 abbrev μ-loop : tie.MeasureT-loop
 μ-loop hashes n slots₀ i₀ slots i = i
 
-cast-clear : tie.Need-cast-clear Inv-loop μ-loop
-cast-clear c = search needs
-
-clear-requires : tie.Need-clear-requires Inv-loop μ-loop
-clear-requires c κs = search needs
-
 loop-holds : tie.Need-loop-holds Inv-loop μ-loop
 loop-holds c =
-    let p = c .before .before .before .before .before .before in
-    rw (c .before .before .clear .ensures, length-replicate (length (p .args .slots .now)) (p .args .n)) (le-refl (p .args .n), refl, filled-start _ _ _)
+    let p = c .before .before in
+    (le-refl (p .args .n), refl, filled-start _ _ _ (p .args .slots .now) (p .pre .1 .1 .1))
 
 sub-i : tie.Need-sub-i Inv-loop μ-loop
 sub-i c = search needs
@@ -32,7 +26,7 @@ sub-i c = search needs
 mul-slot : tie.Need-mul-slot Inv-loop μ-loop
 mul-slot c =
     let l = c .before .loop in
-    let p = c .before .before .before .before .before .before .before .before in
+    let p = c .before .before .before .before in
     let below : l .i - 1 < length (p .args .hashes .now) = omega (arith, c .loop-test .taken, l .inv .0, p .pre .0) in
     search needs
 
@@ -42,9 +36,7 @@ shared-slice-read-slot c = search needs
 slot-requires : tie.Need-slot-requires Inv-loop μ-loop
 slot-requires c κs =
     let l = c .before .before in
-    let k = l .before .before .before in
-    let p = k .before .before .before .before in
-    rw (l .loop .inv .1, k .clear .ensures, length-replicate (length (p .args .slots .now)) (p .args .n)) (p .pre .1 .1)
+    rw (l .loop .inv .1) (l .before .before .before .pre .1 .1 .0)
 
 cast-slots : tie.Need-cast-slots Inv-loop μ-loop
 cast-slots c = search needs
@@ -60,8 +52,7 @@ loop-less c = search needs
 
 loop-again : tie.Need-loop-again Inv-loop μ-loop
 loop-again c =
-    let l = c .before .before .before .loop in
-    let p = c .before .before .before .before .before .before .before .before .before .before in (
+    let l = c .before .before .before .loop in (
       omega (arith, l .inv .0),
       simp length-set (l .inv .1),
       filled-more _ _ _ (l .slots) (l .i) _ (c .before .before .loop-test .taken) (l .inv .0) (rw (← l .inv .1) (c .slot .ensures .0)) (c .slot .ensures .1) (l .inv .2),
@@ -73,10 +64,7 @@ same-length c = search needs
 returns : tie.Need-returns Inv-loop μ-loop
 returns c =
     let l = c .before .loop in
-    let k = c .before .before .before .before in
-    let p = k .before .before .before .before in
-    let wide : length (k .clear .last .0) ≡ length (p .args .slots .now) = rw (k .clear .ensures) (length-replicate (length (p .args .slots .now)) (p .args .n)) in
-    rw (← wide) (filled-end _ _ _ (l .slots) (l .inv .1) (rw (le-antisymm (c .loop-test .left) zero-le) at (l .inv .2)))
+    filled-end _ _ _ (l .slots) (l .inv .1) (rw (le-antisymm (c .loop-test .left) zero-le) at (l .inv .2))
 
 pub fill-spec : {M : Type 1} → statement M
 fill-spec =
@@ -84,8 +72,6 @@ fill-spec =
     (tie.spec
     Inv-loop
     μ-loop
-    cast-clear
-    clear-requires
     loop-holds
     sub-i
     mul-slot

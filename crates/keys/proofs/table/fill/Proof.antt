@@ -22,7 +22,7 @@ returns c =
     let f = c .before .before in
     let h = f .before .before .before .before .before in
     let p = h .before .before .before .before .before .before in
-    (h .hashes .ensures, (f .fill .ensures, table-of _ _ _ _ _ (length (p .args .firsts .now)) (h .hashes .ensures) (f .fill .ensures) (p .pre .1 .1 .1)))
+    (h .hashes .ensures, (f .fill .ensures, table-of _ _ _ _ _ (length (p .args .firsts .now)) (h .hashes .ensures) (f .fill .ensures) (p .pre .1 .1 .1 .0)))
 
 pub fill-spec : {M : Type 1} → statement M
 fill-spec = tie.close (tie.spec hashes-requires fill-requires same-length same-length-2 returns)

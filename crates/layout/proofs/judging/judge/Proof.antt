@@ -1,10 +1,7 @@
 -- The rows of the kind, laid out, tell what they tell.
-use Rattle.layout.proofs.Judged.{laid-tells}
-use Rattle.rows.proofs.Laying.{laid-inside}
-use Rattle.tables.proofs.Tiling.{size-least}
+use Rattle.layout.proofs.Judged.{laid-judged, laid-tells}
 use borrow.Author.Needs.{needs}
 use mathlib.Core.Path.{_∙_}
-use native.Mathlib.Omega.{arith}
 use Rattle.layout.proofs.judging.judge.Statement.{statement}
 use Rattle.layout.proofs.judging.judge.Tie as tie
 
@@ -14,9 +11,7 @@ rows-of-requires c κs = search needs
 judge-rows-requires : tie.Need-judge-rows-requires
 judge-rows-requires c κs =
     let b = c .before .before .before .before in
-    let within = laid-inside (b .args .kind) (b .args .role) (c .rows-of .result) (c .rows-of .ensures) in
-    let least = size-least (b .args .kind) in
-    (λ i. omega (arith, within i, b .pre .0), (λ i. omega (arith, within i, b .pre .1), (omega (arith, least, b .pre .0), omega (arith, least, b .pre .1))))
+    laid-judged (b .args .kind) (b .args .role) (c .rows-of .result) (c .rows-of .ensures) (b .args .rec .now) (b .args .header .now) (b .pre .0) (b .pre .1)
 
 returns : tie.Need-returns
 returns c =

@@ -1,6 +1,6 @@
 -- By the mark.
-use Rattle.terms.proofs.Places.{mark-inside}
-use Rattle.terms.specs.Marks.{markIn, codeIn}
+use Rattle.agreement.proofs.Places.{mark-inside}
+use Rattle.agreement.specs.Marks.{markIn, codeIn}
 use Rattle.outcomes.specs.Outcomes.{failedBy}
 use borrow.Author.Tests.{eq-eqb, ne-eqb}
 use native.Mathlib.Omega.{arith}

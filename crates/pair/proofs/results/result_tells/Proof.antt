@@ -1,5 +1,5 @@
 -- By whether the result has a request.
-use Rattle.terms.proofs.Places.{same-size}
+use Rattle.agreement.proofs.Places.{same-size}
 use Rattle.kinds.specs.Pairs.{resultKind}
 use Rattle.pair.specs.Results.{resultTells}
 use Rattle.records.proofs.Places.{count-small}

@@ -38,7 +38,7 @@ put-bytes-requires-3 : tie.Need-put-bytes-requires-3
 put-bytes-requires-3 c κs = search needs
 
 returns : tie.Need-returns
-returns c = rw (c .enum-told .given .1) (omega arith, (sym (put-none _ _), omega arith))
+returns c = rw (c .enum-told .given .1) (omega arith, (sym (put-none (c .before .before .before .args .at) (c .before .before .before .args .text .now)), omega arith))
 
 same-length : tie.Need-same-length
 same-length c = search needs

@@ -23,12 +23,18 @@ array-share-prefix-frame c = search needs
 slice-aggregate-put-bytes : tie.Need-slice-aggregate-put-bytes
 slice-aggregate-put-bytes c =
     let k = c .before .before .before .before .compose in
-    rw (put-taken (k .result) _ _ (k .last .1 .1 .0) (k .ensures .0) (k .ensures .1 .0)) (k .ensures .0)
+    let a = c .before .before .before .before .before .before .before .before .before .args in
+    let text = postText (a .request .now) (a .result .now) in
+    let taken : take (k .result) (k .last .1 .1 .0) ≡ text = put-taken (k .result) text _ (k .last .1 .1 .0) (k .ensures .0) (k .ensures .1 .0) in
+    rw taken (k .ensures .0)
 
 put-bytes-requires : tie.Need-put-bytes-requires
 put-bytes-requires c κs =
     let k = c .before .before .before .before .compose in
-    rw (put-taken (k .result) _ _ (k .last .1 .1 .0) (k .ensures .0) (k .ensures .1 .0)) (omega (arith, k .ensures .0, c .before .before .if1 .taken))
+    let a = c .before .before .before .before .before .before .before .before .before .args in
+    let text = postText (a .request .now) (a .result .now) in
+    let taken : take (k .result) (k .last .1 .1 .0) ≡ text = put-taken (k .result) text _ (k .last .1 .1 .0) (k .ensures .0) (k .ensures .1 .0) in
+    rw taken (omega (arith, k .ensures .0, c .before .before .if1 .taken))
 
 same-length : tie.Need-same-length
 same-length c = search needs

@@ -13,19 +13,22 @@ use Rattle.reader.proofs.judged.records_tell.Statement.{statement}
 use Rattle.reader.proofs.judged.records_tell.Tie as tie
 
 abbrev Inv-loop : tie.InvT-loop
-Inv-loop kind file n i₀ i = (i ≤ n) × (n ≡ countOf kind file) × So-far (judgedAt kind file) i
+Inv-loop kind file n rows i₀ i = (i ≤ n) × (n ≡ countOf kind file) × So-far (judgedAt kind file) i
 
 abbrev μ-loop : tie.MeasureT-loop
-μ-loop kind file n i₀ i = n - i
+μ-loop kind file n rows i₀ i = n - i
 
 count-requires : tie.Need-count-requires Inv-loop μ-loop
 count-requires c κs = search needs
 
+rows-of-requires : tie.Need-rows-of-requires Inv-loop μ-loop
+rows-of-requires c κs = search needs
+
 loop-holds : tie.Need-loop-holds Inv-loop μ-loop
-loop-holds c = (search needs, c .count .ensures, least-start _)
+loop-holds c = (search needs, c .before .count .ensures, least-start _)
 
 judged-at-requires : tie.Need-judged-at-requires Inv-loop μ-loop
-judged-at-requires c κs = search needs
+judged-at-requires c κs = (c .before .before .rows-of .ensures, search needs)
 
 returns : tie.Need-returns Inv-loop μ-loop
 unfolding recordsTell
@@ -36,7 +39,7 @@ returns c =
 
 add-i : tie.Need-add-i Inv-loop μ-loop
 add-i c =
-    let a = c .before .before .before .before .before .before .before .args in
+    let a = c .before .before .before .before .before .before .before .before .args in
     omega (arith, count-small (a .kind) (a .file .now))
 
 loop-less : tie.Need-loop-less Inv-loop μ-loop
@@ -64,6 +67,7 @@ records-tell-spec =
     Inv-loop
     μ-loop
     count-requires
+    rows-of-requires
     loop-holds
     judged-at-requires
     returns

@@ -1,8 +1,12 @@
 -- The table is filled, then searched.
+use mathlib.Core.Path.{refl}
 use native.Mathlib.Omega.{arith}
 use borrow.Author.Needs.{needs}
 use Rattle.reader.proofs.repeats.first_repeat.Statement.{statement}
 use Rattle.reader.proofs.repeats.first_repeat.Tie as tie
+
+cast-firsts : tie.Need-cast-firsts
+cast-firsts c = search needs
 
 slice-aggregate-fill : tie.Need-slice-aggregate-fill
 slice-aggregate-fill c = search needs
@@ -16,7 +20,7 @@ slice-aggregate-fill-3 c = search needs
 fill-requires : tie.Need-fill-requires
 fill-requires c κs =
     let p = c .before .before .before .before .pre in
-    (p .1, (p .0, (omega (arith, p .0), omega arith)))
+    (p .1, (p .0, (omega (arith, p .0), (omega arith, refl))))
 
 slice-aggregate-first-repeat : tie.Need-slice-aggregate-first-repeat
 slice-aggregate-first-repeat c = search needs
@@ -37,6 +41,7 @@ pub first-repeat-spec : {M : Type 1} → statement M
 first-repeat-spec =
     tie.close
     (tie.spec
+    cast-firsts
     slice-aggregate-fill
     slice-aggregate-fill-2
     slice-aggregate-fill-3

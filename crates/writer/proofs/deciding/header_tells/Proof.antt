@@ -1,8 +1,8 @@
 -- The header stands in front, and is judged against itself.
 use Rattle.kinds.specs.Kinds.{fixedOf}
-use Rattle.making.proofs.Lengths.{header-length}
-use Rattle.making.proofs.Sizes.{size-most}
-use Rattle.making.specs.Records.{headOf, headerBuilt}
+use Rattle.builder.proofs.Lengths.{header-length}
+use Rattle.builder.proofs.Sizes.{size-most}
+use Rattle.builder.specs.Records.{headOf, headerBuilt}
 use Rattle.records.specs.Records.{recordOf}
 use Rattle.writer.proofs.Frame.{frame-count, stored-there}
 use Rattle.writer.specs.Writing.{headerTold}

@@ -1,5 +1,5 @@
 -- Stage by stage, as reading the file to be written says.
-use Rattle.making.specs.Records.{headOf}
+use Rattle.builder.specs.Records.{headOf}
 use Rattle.writer.proofs.Decided.{by-header, by-data, by-trailer, by-keys}
 use native.Mathlib.Omega.{arith}
 use borrow.Author.Needs.{needs}

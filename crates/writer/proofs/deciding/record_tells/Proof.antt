@@ -1,8 +1,8 @@
 -- The record stands behind the header, and is judged against it.
 use Rattle.kinds.specs.Kinds.{fixedOf}
-use Rattle.making.proofs.Lengths.{data-length}
-use Rattle.making.proofs.Sizes.{size-most}
-use Rattle.making.specs.Records.{dataBuilt}
+use Rattle.builder.proofs.Lengths.{data-length}
+use Rattle.builder.proofs.Sizes.{size-most}
+use Rattle.builder.specs.Records.{dataBuilt}
 use Rattle.records.specs.Records.{recordOf}
 use Rattle.writer.proofs.Frame.{frame-count, front-take, stored-there, stored-front}
 use Rattle.writer.specs.Writing.{dataTold}

@@ -1,8 +1,8 @@
 -- The trailer stands behind, and is judged against the header; then its totals.
 use Rattle.answers.proofs.Refusals.{number-of, then-first, then-second}
-use Rattle.making.proofs.Lengths.{trailer-length}
-use Rattle.making.proofs.Sizes.{size-most}
-use Rattle.making.specs.Records.{trailerBuilt}
+use Rattle.builder.proofs.Lengths.{trailer-length}
+use Rattle.builder.proofs.Sizes.{size-most}
+use Rattle.builder.specs.Records.{trailerBuilt}
 use Rattle.records.specs.Records.{recordOf, countOf}
 use Rattle.tables.proofs.Tiling.{size-least}
 use Rattle.writer.proofs.Frame.{frame-count, front-take, stored-there, stored-front}

@@ -1,5 +1,5 @@
 -- By the kind's fixed numbers.
-use Rattle.making.proofs.Sizes.{key-behind}
+use Rattle.builder.proofs.Sizes.{key-behind}
 use borrow.Author.Needs.{needs}
 use Rattle.writer.proofs.keys_built.body_spacing.Statement.{statement}
 use Rattle.writer.proofs.keys_built.body_spacing.Tie as tie

@@ -1,7 +1,7 @@
 -- A body has bytes.
 use Rattle.tables.proofs.Tiling.{size-least}
-use Rattle.making.proofs.Sizes.{body-size}
-use Rattle.making.specs.Records.{bodyCount}
+use Rattle.builder.proofs.Sizes.{body-size}
+use Rattle.builder.specs.Records.{bodyCount}
 use native.Mathlib.Omega.{arith}
 use borrow.Author.Needs.{needs}
 use Rattle.writer.proofs.writing.body_count.Statement.{statement}

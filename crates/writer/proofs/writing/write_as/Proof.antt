@@ -1,10 +1,10 @@
 -- Refusals first, then the answer of reading; only what is accepted is stored.
 use Rattle.tables.proofs.Tiling.{size-least}
 use Rattle.kinds.specs.Kinds.{fixedOf}
-use Rattle.making.proofs.Sizes.{body-size, frame-fits}
+use Rattle.builder.proofs.Sizes.{body-size, frame-fits}
 use Rattle.writer.proofs.Written.{told-2, told-3, told-8, told-read, told-good}
 use Rattle.writer.specs.Writing.{partsFit}
-use Rattle.making.specs.Records.{headOf}
+use Rattle.builder.specs.Records.{headOf}
 use mathlib.Core.Path.{_≡_, refl, _∙_}
 use native.Mathlib.Omega.{arith}
 use borrow.Author.Needs.{needs}

@@ -1,8 +1,0 @@
--- A lent buffer with a text put at a place of it.
-use Prim.Native.Nat.{ℕ, _+_}
-use mathlib.Core.List.{List, _++_}
-use lib.ListN.{length, take, drop}
-
--- x stands from `at` on, all else is as it was
-unfoldable pub putAt : ℕ → List ℕ → List ℕ → List ℕ
-putAt at x old = take at old ++ x ++ drop (at + length x) old
