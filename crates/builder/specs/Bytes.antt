@@ -7,7 +7,7 @@ use lib.ListN.{length, getD}
 use Rattle.laws.specs.Least.{least}
 use Rattle.tables.specs.declared.row.Row.{Row}
 use Rattle.tables.specs.declared.row.Class.{Class}
-use Rattle.tables.specs.declared.row.Class.the-variants.{Each, CodeText, Filled, Owner, Institution, KindName, Date, NameDate, Serial, AsHeader, NotLater, Application, NotZero, Failed, FailedOrPart, Least}
+use Rattle.tables.specs.declared.row.Class.the-variants.{Each, CodeText, Filled, Owner, Institution, KindName, Date, NameDate, Serial, AsHeader, NotLater, Application, NotZero, Failed, FailedOrPart, Least, LongDate, HeaderFrom, Extension}
 use Rattle.tables.specs.Rows.{blank}
 
 -- a row is over place j, row i is, the first row that is
@@ -38,3 +38,6 @@ fillBy NotZero given letter digit theirs = given
 fillBy Failed given letter digit theirs = given
 fillBy FailedOrPart given letter digit theirs = given
 fillBy Least given letter digit theirs = given
+fillBy LongDate given letter digit theirs = given
+fillBy (HeaderFrom start) given letter digit theirs = given
+fillBy Extension given letter digit theirs = given

@@ -26,6 +26,9 @@ pub(crate) fn fill(class: Class, given: u8, letter: u8, digit: u8, theirs: u8) -
         Class::Failed => given,
         Class::FailedOrPart => given,
         Class::Least => given,
+        Class::LongDate => given,
+        Class::HeaderFrom(_) => given,
+        Class::Extension => given,
     }
 }
 

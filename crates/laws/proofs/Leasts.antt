@@ -83,6 +83,13 @@ least-stop p i n h e t =
     least-only p n (least p n) i (least-is p n)
     (record { within = omega arith; holds = λ _. t; before = least-before p i e })
 
+-- none up to i, so the first is past it
+pub least-past : (p : ℕ → Bool) (i n : ℕ) → i < n → least p (i + 1) ≡ i + 1 → i < least p n
+least-past p i n h e =
+    ⊎-elim (λ t. ltb-true i (least p n) t)
+    (λ f. let l : least p n ≤ i = ltb-false i (least p n) f in absurd (clash (least-is p n .holds (omega arith)) (least-before p (i + 1) e (least p n) (omega arith))))
+    (either (ltb i (least p n)))
+
 -- none below n
 pub least-none : (p : ℕ → Bool) (n : ℕ) → ((k : ℕ) → k < n → p k ≡ false) → least p n ≡ n
 least-none p n f =

@@ -30,6 +30,11 @@ module _ (start size : ℕ) (s : List ℕ) where
   unfolding part
   part-at i h = rw (getD-take, getD-drop)
 
+-- what is left from a place on, where that is shorter
+pub part-short : (start size : ℕ) (s : List ℕ) → length s ≤ size → part start size s ≡ drop start s
+unfolding part
+part-short start size s h = take-all size (drop start s) (rw length-drop (omega arith))
+
 -- all from a place on
 pub rest : (n : ℕ) (s : List ℕ) → take (length s - n) (drop n s) ≡ drop n s
 rest n s = take-all (length s - n) (drop n s) (rw length-drop (omega arith))

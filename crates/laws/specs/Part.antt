@@ -17,3 +17,7 @@ differ a b k = not (eqb (getD a k 0) (getD b k 0))
 -- a and b are as long as each other and differ at no place
 unfoldable pub same : List ℕ → List ℕ → Bool
 same a b = eqb (length a) (length b) && none (differ a b) (length a)
+
+-- s begins with x
+unfoldable pub begins : List ℕ → List ℕ → Bool
+begins x s = same x (part 0 (length x) s)

@@ -4,14 +4,15 @@ use mathlib.Core.Bool.{Bool, cond, not, _&&_, _||_}
 use mathlib.Core.List.{List}
 use lib.Dec.{leb, eqb}
 use lib.ListN.{getD, drop}
-use Rattle.laws.specs.Part.{part, same}
+use Rattle.laws.specs.Part.{part, same, begins}
 use Rattle.text.specs.Characters.{each, codeText, filled, digits, zeros}
 use Rattle.numbers.specs.Numbers.{says, wordOf}
-use Rattle.numbers.specs.Dates.{isDate, notLater}
+use Rattle.numbers.specs.Dates.{isDate, notLater, isLongDate}
+use Rattle.evidence_kinds.specs.Evidence.{extension}
 use Rattle.kinds.specs.declared.of_files.Own.{Own}
 use Rattle.tables.specs.declared.row.Row.{Row}
 use Rattle.tables.specs.declared.row.Class.{Class}
-use Rattle.tables.specs.declared.row.Class.the-variants.{Each, CodeText, Filled, Owner, Institution, KindName, Date, NameDate, Serial, AsHeader, NotLater, Application, NotZero, Failed, FailedOrPart, Least}
+use Rattle.tables.specs.declared.row.Class.the-variants.{Each, CodeText, Filled, Owner, Institution, KindName, Date, NameDate, Serial, AsHeader, NotLater, Application, NotZero, Failed, FailedOrPart, Least, LongDate, HeaderFrom, Extension}
 use Rattle.tables.specs.Codes.{isTableCode}
 use Rattle.layout.specs.Items.{dateOf, nameDay, amountOf, applicationOf}
 
@@ -57,6 +58,9 @@ meets NotZero o item theirs rec header n = not (zeros item)
 meets Failed o item theirs rec header n = failed item
 meets FailedOrPart o item theirs rec header n = failed item || partly item
 meets Least o item theirs rec header n = enough (o .least) item rec
+meets LongDate o item theirs rec header n = isLongDate item
+meets (HeaderFrom start) o item theirs rec header n = begins item (drop start header)
+meets Extension o item theirs rec header n = extension (getD rec 106 0) item
 
 -- the row's rule holds in a record
 unfoldable pub holds : Own → List ℕ → List ℕ → ℕ → Row → Bool

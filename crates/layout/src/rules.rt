@@ -5,6 +5,7 @@ ghost use Prim.Native.Nat.{_+_, _≤_};
 ghost use lib.ListN.{length};
 ghost use Rattle.layout.specs.Rules.{owner, institution, application, failed, partly, enough, holds};
 use crate::items;
+use evidence_kinds::allowed;
 use kinds::of_files::Own;
 use numbers::base_ten;
 use numbers::dates;
@@ -95,5 +96,8 @@ pub(crate) fn holds(own: Own, row: Row, rec: &[u8], header: &[u8], number: u64) 
         Class::Failed => failed(item),
         Class::FailedOrPart => failed(item) || partly(item),
         Class::Least => enough(own.least, item, rec),
+        Class::LongDate => dates::long_date(item),
+        Class::HeaderFrom(start) => parts::begins(item, parts::rest(header, start as usize)),
+        Class::Extension => allowed::extension(parts::byte(rec, 106), item),
     }
 }

@@ -1,9 +1,9 @@
--- Dates, YYMMDD for 20YY.
+-- Dates, YYMMDD for 20YY, and YYYYMMDD.
 use Prim.Native.Nat.{ℕ, _%_}
 use mathlib.Core.Bool.{Bool, cond, _&&_}
 use mathlib.Core.List.{List, [], _∷_}
 use lib.Dec.{leb, eqb}
-use lib.ListN.{length, getD}
+use lib.ListN.{length, getD, drop}
 use Rattle.laws.specs.Part.{part}
 use Rattle.text.specs.Characters.{digits}
 use Rattle.numbers.specs.Numbers.{valueOf}
@@ -31,3 +31,10 @@ isDate s = eqb (length s) 6 && digits s && hasDay (valueOf (part 0 2 s)) (valueO
 -- a date, not later than the other
 unfoldable pub notLater : List ℕ → List ℕ → Bool
 notLater s t = isDate s && leb (valueOf s) (valueOf t)
+
+-- a date YYYYMMDD of the years 2000 to 2099
+unfoldable pub of2000 : List ℕ → Bool
+of2000 s = eqb (getD s 0 0) 0x32 && eqb (getD s 1 0) 0x30
+
+unfoldable pub isLongDate : List ℕ → Bool
+isLongDate s = of2000 s && isDate (drop 2 s)

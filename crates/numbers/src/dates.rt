@@ -1,8 +1,8 @@
-// Dates, YYMMDD for 20YY.
+// Dates, YYMMDD for 20YY, and YYYYMMDD.
 ghost use mathlib.Core.Path.{_≡_};
 ghost use Prim.Native.Nat.{_≤_};
 ghost use lib.ListN.{length};
-ghost use Rattle.numbers.specs.Dates.{leapDay, daysOf, hasDay, isDate, notLater};
+ghost use Rattle.numbers.specs.Dates.{leapDay, daysOf, hasDay, isDate, notLater, of2000, isLongDate};
 use crate::base_ten;
 use text::characters;
 use text::parts;
@@ -58,6 +58,23 @@ pub fn not_later(s: &[u8], t: &[u8]) -> bool
 {
     if date(s) {
         return base_ten::number(s) <= base_ten::number(t);
+    }
+    false
+}
+
+// s begins with "20".
+fn of_2000(s: &[u8]) -> bool
+    ensures { λ r. ⌜ r ≡ of2000 (now (s .entry)) ⌝ }
+{
+    parts::byte(s, 0) == b'2' && parts::byte(s, 1) == b'0'
+}
+
+// s is a date YYYYMMDD of the years 2000 to 2099.
+pub fn long_date(s: &[u8]) -> bool
+    ensures { λ r. ⌜ r ≡ isLongDate (now (s .entry)) ⌝ }
+{
+    if of_2000(s) {
+        return date(parts::rest(s, 2));
     }
     false
 }

@@ -34,6 +34,12 @@ pub enum Class {
     FailedOrPart,
     // type "1", or the record's amount reaches the kind's least amount
     Least,
+    // a date YYYYMMDD
+    LongDate,
+    // the header's bytes from a place of their own
+    HeaderFrom(u8),
+    // an extension that the kind of evidence allows
+    Extension,
 }
 
 // Item, start, length, class, code.

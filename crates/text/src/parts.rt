@@ -2,7 +2,7 @@
 ghost use mathlib.Core.Path.{_≡_};
 ghost use Prim.Native.Nat.{_+_, _≤_, _<_};
 ghost use lib.ListN.{length, getD, drop};
-ghost use Rattle.laws.specs.Part.{part, same};
+ghost use Rattle.laws.specs.Part.{part, same, begins};
 ghost use Rattle.laws.specs.Stored.{stored};
 
 // The part of s that begins at start and is size bytes long.
@@ -51,6 +51,16 @@ pub fn same(a: &[u8], b: &[u8]) -> bool
         i += 1;
     }
     true
+}
+
+// s begins with x.
+pub fn begins(x: &[u8], s: &[u8]) -> bool
+    ensures { λ r. ⌜ r ≡ begins (now (x .entry)) (now (s .entry)) ⌝ }
+{
+    if s.len() < x.len() {
+        return false;
+    }
+    same(x, part(s, 0, x.len()))
 }
 
 // Stores bytes at a place of a lent slice.

@@ -1,6 +1,6 @@
 -- Each class by its byte.
-use borrow.Author.Needs.{needs}
 use borrow.Author.Tests.{eq-eqb, ne-eqb}
+use borrow.Author.Needs.{needs}
 use Rattle.builder.proofs.bytes.fill.Statement.{statement}
 use Rattle.builder.proofs.bytes.fill.Tie as tie
 
@@ -52,6 +52,15 @@ enum-told-14 c = search needs
 enum-told-15 : tie.Need-enum-told-15
 enum-told-15 c = search needs
 
+enum-told-16 : tie.Need-enum-told-16
+enum-told-16 c = search needs
+
+enum-told-17 : tie.Need-enum-told-17
+enum-told-17 c = search needs
+
+enum-told-18 : tie.Need-enum-told-18
+enum-told-18 c = search needs
+
 returns : tie.Need-returns
 returns c = rw (c .before .before .class .given .1, eq-eqb _ _ (c .if1 .taken))
 
@@ -59,49 +68,58 @@ returns-2 : tie.Need-returns-2
 returns-2 c = rw (c .before .before .class .given .1, ne-eqb _ _ (c .if1 .left))
 
 returns-3 : tie.Need-returns-3
-returns-3 c = search needs
+returns-3 c = rw (c .enum-told .given .1)
 
 returns-4 : tie.Need-returns-4
-returns-4 c = search needs
+returns-4 c = rw (c .enum-told2 .given .1)
 
 returns-5 : tie.Need-returns-5
-returns-5 c = search needs
+returns-5 c = rw (c .enum-told3 .given .1)
 
 returns-6 : tie.Need-returns-6
-returns-6 c = search needs
+returns-6 c = rw (c .enum-told4 .given .1)
 
 returns-7 : tie.Need-returns-7
-returns-7 c = search needs
+returns-7 c = rw (c .enum-told5 .given .1)
 
 returns-8 : tie.Need-returns-8
-returns-8 c = search needs
+returns-8 c = rw (c .enum-told6 .given .1)
 
 returns-9 : tie.Need-returns-9
-returns-9 c = search needs
+returns-9 c = rw (c .enum-told7 .given .1)
 
 returns-10 : tie.Need-returns-10
-returns-10 c = search needs
+returns-10 c = rw (c .enum-told8 .given .1)
 
 returns-11 : tie.Need-returns-11
-returns-11 c = search needs
+returns-11 c = rw (c .enum-told9 .given .1)
 
 returns-12 : tie.Need-returns-12
-returns-12 c = search needs
+returns-12 c = rw (c .enum-told10 .given .1)
 
 returns-13 : tie.Need-returns-13
-returns-13 c = search needs
+returns-13 c = rw (c .enum-told11 .given .1)
 
 returns-14 : tie.Need-returns-14
-returns-14 c = search needs
+returns-14 c = rw (c .enum-told12 .given .1)
 
 returns-15 : tie.Need-returns-15
-returns-15 c = search needs
+returns-15 c = rw (c .enum-told13 .given .1)
 
 returns-16 : tie.Need-returns-16
-returns-16 c = search needs
+returns-16 c = rw (c .enum-told14 .given .1)
 
 returns-17 : tie.Need-returns-17
-returns-17 c = search needs
+returns-17 c = rw (c .enum-told15 .given .1)
+
+returns-18 : tie.Need-returns-18
+returns-18 c = rw (c .enum-told16 .given .1)
+
+returns-19 : tie.Need-returns-19
+returns-19 c = rw (c .enum-told17 .given .1)
+
+returns-20 : tie.Need-returns-20
+returns-20 c = rw (c .enum-told18 .given .1)
 
 pub fill-spec : {M : Type 1} → statement M
 fill-spec =
@@ -123,6 +141,9 @@ fill-spec =
     enum-told-13
     enum-told-14
     enum-told-15
+    enum-told-16
+    enum-told-17
+    enum-told-18
     returns
     returns-2
     returns-3
@@ -139,4 +160,7 @@ fill-spec =
     returns-14
     returns-15
     returns-16
-    returns-17)
+    returns-17
+    returns-18
+    returns-19
+    returns-20)

@@ -119,6 +119,33 @@ enum-told-15 c = search needs
 enough-requires : tie.Need-enough-requires
 enough-requires c κs = search needs
 
+enum-told-16 : tie.Need-enum-told-16
+enum-told-16 c = search needs
+
+long-date-requires : tie.Need-long-date-requires
+long-date-requires c κs = search needs
+
+enum-known-class-2 : tie.Need-enum-known-class-2
+enum-known-class-2 c = search needs
+
+cast-rest : tie.Need-cast-rest
+cast-rest c = search needs
+
+rest-requires-2 : tie.Need-rest-requires-2
+rest-requires-2 c κs = search needs
+
+begins-requires : tie.Need-begins-requires
+begins-requires c κs = search needs
+
+enum-told-17 : tie.Need-enum-told-17
+enum-told-17 c = search needs
+
+byte-requires : tie.Need-byte-requires
+byte-requires c κs = search needs
+
+extension-requires : tie.Need-extension-requires
+extension-requires c κs = search needs
+
 returns : tie.Need-returns
 unfolding holds meets
 returns c = rw (c .before .before .class .given .1, ← c .before .before .before .before .part .ensures .0) (c .each .ensures)
@@ -187,6 +214,18 @@ returns-17 : tie.Need-returns-17
 unfolding holds meets
 returns-17 c = rw (c .before .enum-told15 .given .1, ← c .before .before .before .part .ensures .0) (c .enough .ensures)
 
+returns-18 : tie.Need-returns-18
+unfolding holds meets
+returns-18 c = rw (c .before .enum-told16 .given .1, ← c .before .before .before .part .ensures .0) (c .long-date .ensures)
+
+returns-19 : tie.Need-returns-19
+unfolding holds meets
+returns-19 c = rw (c .before .before .before .class2 .given .1, ← c .before .before .before .before .before .part .ensures .0, ← c .before .rest2 .ensures) (c .begins .ensures)
+
+returns-20 : tie.Need-returns-20
+unfolding holds meets
+returns-20 c = rw (c .before .before .enum-told17 .given .1, ← c .before .before .before .before .part .ensures .0, ← c .before .byte .ensures .0) (c .extension .ensures)
+
 pub holds-spec : {M : Type 1} → statement M
 holds-spec =
     tie.close
@@ -229,6 +268,15 @@ holds-spec =
     partly-requires
     enum-told-15
     enough-requires
+    enum-told-16
+    long-date-requires
+    enum-known-class-2
+    cast-rest
+    rest-requires-2
+    begins-requires
+    enum-told-17
+    byte-requires
+    extension-requires
     returns
     returns-2
     returns-3
@@ -245,4 +293,7 @@ holds-spec =
     returns-14
     returns-15
     returns-16
-    returns-17)
+    returns-17
+    returns-18
+    returns-19
+    returns-20)

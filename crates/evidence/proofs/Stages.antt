@@ -1,0 +1,208 @@
+-- What each stage of reading says: size, header, records, trailer, counts, keys. Accepted is that each of them is good.
+-- Assumes nothing.
+use Prim.Native.Nat.{ℕ, _+_, _*_, _%_, _≤_, _<_}
+use mathlib.Core.Bool.{Bool, true, false, cond, _&&_}
+use mathlib.Core.List.{List}
+use mathlib.Core.Path.{_≡_, refl, sym, _∙_}
+use mathlib.Core.Logic.{_↔_, ⊎-elim}
+use native.Mathlib.Nat.{eq-or-lt-of-le}
+use native.Mathlib.Omega.{arith}
+use borrow.Author.Tests.{eqb-true, leb-true, ltb-true, ltb-false, lt-ltb, le-ltb, eq-eqb, ne-eqb, le-leb}
+use lib.Dec.{eqb, leb, ltb}
+use lib.ListN.{length}
+use Rattle.laws.specs.Least.{least}
+use Rattle.laws.specs.Part.{part, same}
+use Rattle.laws.proofs.Bools.{and-left, and-right, either, clash}
+use Rattle.laws.proofs.Leasts.{least-is, least-none, least-before, some-true, some-false}
+use Rattle.laws.proofs.Parts.{same-equal, same-self}
+use Rattle.text.specs.Characters.{spaces}
+use Rattle.kinds.specs.Kinds.{limit}
+use Rattle.answers.specs.declared.told.Answer.{Answer}
+use Rattle.answers.specs.Answers.{accepted, refused, refusedAt}
+use Rattle.answers.proofs.Refusals.{number-of, then-second, then-zero, all-told, told-all}
+use Rattle.evidence_rows.specs.Tables.{headerRows, dataRows, trailerRows}
+use Rattle.layout.proofs.Judged.{judge-exact}
+use Rattle.keys.specs.Keys.{sharesIn, repeatsIn}
+use Rattle.evidence.specs.Blocks.{block, front, mostBlocks, blocksIn, lastBlock, blockAt, lengthAt, kindAt, nextOf, startOf, recordsIn}
+use Rattle.evidence.specs.Judged.{noOwn, lengthGood, headerTold, itemsTold, lengthTold, fillerAt, fillerTold, blockTold, recordTold, recordsTold, trailerTold}
+use Rattle.evidence.specs.Reading.{isWhole, sizeTold, countTold, countsTold, keyOf, repeatTold, keysTold, readOf}
+use Rattle.evidence.specs.Meets.{RowsHold, Distinct}
+use Rattle.evidence.specs.Stages.{Sizes, Good, Each, Counts, Stages}
+use Rattle.evidence.proofs.Walks.{records-most}
+
+-- a test that tells a refusal where it fails is good only where it holds
+pub tested : (t : Bool) (a : Answer) → (a .number ≡ 0 → ⊥) → cond t accepted a .number ≡ 0 → t ≡ true
+tested true a ne e = refl
+tested false a ne e = absurd (ne e)
+
+-- keys: none repeats exactly when all are distinct
+module _ (key : ℕ → List ℕ) where
+  repeat-if : (i j : ℕ) → j < i → key i ≡ key j → repeatsIn key i ≡ true
+  unfolding repeatsIn sharesIn
+  repeat-if i j h e = some-true (sharesIn key i) i j h (rw e (same-self (key j)))
+
+  pub distinct-if : (n : ℕ) → ((i : ℕ) → i < n → repeatsIn key i ≡ false) → Distinct key n
+  distinct-if n h i j a b e = ⊎-elim less (λ g. ⊎-elim more (λ f. omega (arith, ltb-false)) (either (ltb j i))) (either (ltb i j))
+    where
+      less : ltb i j ≡ true → i ≡ j
+      less t = absurd (clash (repeat-if j i (ltb-true i j t) (sym e)) (h j b))
+
+      more : ltb j i ≡ true → i ≡ j
+      more t = absurd (clash (repeat-if i j (ltb-true j i t) e) (h i a))
+
+  pub repeat-none : (n : ℕ) → Distinct key n → (i : ℕ) → i < n → repeatsIn key i ≡ false
+  unfolding repeatsIn sharesIn
+  repeat-none n d i h = some-false (sharesIn key i) i (least-none (sharesIn key i) i other)
+    where
+      other : (j : ℕ) → j < i → same (key i) (key j) ≡ false
+      other j l =
+          ⊎-elim (λ t. absurd (let z : j ≡ i = d j i (omega arith) h (sym (same-equal _ _ t)) in omega arith)) (λ f. f)
+          (either (same (key i) (key j)))
+
+module _ (s : List ℕ) where
+  -- the size
+  pub whole-fewest : isWhole s ≡ true → (length s ≡ blocksIn s * block) × (2 ≤ blocksIn s)
+  unfolding isWhole blocksIn
+  whole-fewest t =
+      let even = eqb-true (length s % block) 0 (and-left (eqb (length s % block) 0) (leb 2 (blocksIn s)) t) in
+      (omega arith, leb-true 2 (blocksIn s) (and-right (eqb (length s % block) 0) (leb 2 (blocksIn s)) t))
+
+  pub size-good : sizeTold s .number ≡ 0 → Sizes s
+  unfolding sizeTold
+  size-good e = ⊎-elim whole (λ f. absurd (let z : _≡_ {A = ℕ} 2 0 = rw f at e in omega arith)) (either (isWhole s))
+    where
+      whole : isWhole s ≡ true → Sizes s
+      whole t = record {
+        whole = whole-fewest t .0;
+        fewest = whole-fewest t .1;
+        most = leb-true _ _ (tested (leb (blocksIn s) (mostBlocks + 2)) (refused 3) (λ z. omega arith) (rw t at e));
+      }
+
+  pub good-size : Sizes s → sizeTold s ≡ accepted
+  unfolding sizeTold isWhole
+  good-size z =
+      let even : length s % block ≡ 0 = omega (arith, z .whole) in
+      rw (eq-eqb (length s % block) 0 even, le-leb 2 (blocksIn s) (z .fewest), le-leb (blocksIn s) (mostBlocks + 2) (z .most))
+
+  -- header and trailer
+  pub header-exact : (headerTold s .number ≡ 0) ↔ RowsHold headerRows (blockAt s 0) (blockAt s 0) 0
+  unfolding headerTold
+  header-exact = judge-exact noOwn headerRows (blockAt s 0) (blockAt s 0) 0
+
+  pub trailer-exact : (trailerTold s .number ≡ 0) ↔ RowsHold trailerRows (blockAt s (lastBlock s)) (blockAt s 0) (recordsIn s + 1)
+  unfolding trailerTold
+  trailer-exact = judge-exact noOwn trailerRows (blockAt s (lastBlock s)) (blockAt s 0) (recordsIn s + 1)
+
+  -- the counts
+  pub count-good : (t : Bool) (n item : ℕ) → countTold t n item .number ≡ 0 → t ≡ true
+  unfolding countTold
+  count-good t n item e = tested t _ (λ z. omega arith) e
+
+  pub good-count : (t : Bool) (n item : ℕ) → t ≡ true → countTold t n item ≡ accepted
+  unfolding countTold
+  good-count t n item e = rw e
+
+  pub counts-good : countsTold s .number ≡ 0 → Counts s
+  unfolding countsTold
+  counts-good e =
+      let a = then-zero _ _ e in
+      let b = then-zero _ _ (a .1) in
+      record { header = count-good _ _ _ (a .0); trailer = count-good _ _ _ (b .0); blocks = count-good _ _ _ (b .1) }
+
+  pub good-counts : Counts s → countsTold s ≡ accepted
+  unfolding countsTold
+  good-counts c =
+      then-second _ _ (number-of (good-count _ 0 6 (c .header))) ∙
+      (then-second _ _ (number-of (good-count _ (recordsIn s + 1) 5 (c .trailer))) ∙ good-count _ (recordsIn s + 1) 6 (c .blocks))
+
+  -- the keys
+  pub keys-good : keysTold s .number ≡ 0 → Distinct (keyOf s) (recordsIn s)
+  unfolding keysTold repeatTold
+  keys-good e = ⊎-elim (λ q. distinct-if (keyOf s) n (least-before (repeatsIn (keyOf s)) n q)) found (eq-or-lt-of-le (least-is (repeatsIn (keyOf s)) n .within))
+    where
+      n : ℕ
+      n = recordsIn s
+
+      found : least (repeatsIn (keyOf s)) n < n → Distinct (keyOf s) n
+      found h = absurd (let z : _≡_ {A = ℕ} 7 0 = rw (lt-ltb _ _ h) at e in omega arith)
+
+  pub good-keys : Distinct (keyOf s) (recordsIn s) → keysTold s ≡ accepted
+  unfolding keysTold repeatTold
+  good-keys d =
+      rw (least-none (repeatsIn (keyOf s)) (recordsIn s) (repeat-none (keyOf s) (recordsIn s) d), le-ltb (recordsIn s) (recordsIn s) (omega arith))
+
+  pub keys-bad : least (repeatsIn (keyOf s)) (recordsIn s) < recordsIn s → keysTold s ≡ refusedAt 7 (least (repeatsIn (keyOf s)) (recordsIn s) + 1) 6 0x30303030
+  unfolding keysTold repeatTold
+  keys-bad h = rw (lt-ltb _ _ h)
+
+module _ (exempt : Bool) (s : List ℕ) where
+  -- one record
+  pub block-good : (b n : ℕ) → blockTold exempt s b n .number ≡ 0 → Good exempt s b n
+  unfolding blockTold itemsTold lengthTold fillerTold
+  block-good b n e =
+      let p = then-zero _ _ e in
+      let q = then-zero _ _ (p .1) in
+      let t = tested (lengthGood exempt (kindAt s b) (lengthAt s b) && leb (nextOf s b) (lastBlock s)) _ (λ z. omega arith) (q .0) in
+      record {
+        rows = judge-exact noOwn (dataRows exempt) (part (b * block) front s) (blockAt s 0) n .0 (p .0);
+        size = and-left (lengthGood exempt (kindAt s b) (lengthAt s b)) (leb (nextOf s b) (lastBlock s)) t;
+        inside = leb-true _ _ (and-right (lengthGood exempt (kindAt s b) (lengthAt s b)) (leb (nextOf s b) (lastBlock s)) t);
+        filler = tested (spaces (fillerAt s b)) _ (λ z. omega arith) (q .1);
+      }
+
+  pub good-block : (b n : ℕ) → Good exempt s b n → blockTold exempt s b n ≡ accepted
+  unfolding blockTold itemsTold lengthTold fillerTold
+  good-block b n g =
+      then-second _ _ (judge-exact noOwn (dataRows exempt) (part (b * block) front s) (blockAt s 0) n .1 (g .rows)) ∙
+      rw (g .size, le-leb (nextOf s b) (lastBlock s) (g .inside), g .filler) (then-second accepted accepted refl)
+
+  -- the limit's next one is not met
+  pub records-good : recordsTold exempt s .number ≡ 0 → (recordsIn s ≤ limit) × Each exempt s (recordsIn s)
+  unfolding recordsTold recordTold
+  records-good e = (few, λ i h. block-good (startOf s i) (i + 1) (rw (ne-eqb i limit (λ q. absurd (omega (arith, few)))) at (told i h)))
+    where
+      told : (i : ℕ) → i < recordsIn s → recordTold exempt s i .number ≡ 0
+      told = all-told (recordTold exempt s) (recordsIn s) e
+
+      few : recordsIn s ≤ limit
+      few = ⊎-elim
+          (λ q. absurd (let z : _≡_ {A = ℕ} 3 0 = told limit (omega arith) in omega arith))
+          (λ h. omega arith)
+          (eq-or-lt-of-le (records-most s))
+
+  pub good-records : recordsIn s ≤ limit → Each exempt s (recordsIn s) → recordsTold exempt s ≡ accepted
+  unfolding recordsTold recordTold
+  good-records few g =
+      told-all (recordTold exempt s) (recordsIn s)
+      (λ i h. rw (ne-eqb i limit (λ q. absurd (omega arith))) (number-of (good-block (startOf s i) (i + 1) (g i h))))
+
+  -- accepted is that each stage is good; number 0 is enough
+  pub read-good : readOf exempt s .number ≡ 0 → Stages exempt s
+  unfolding readOf
+  read-good e =
+      let a = then-zero _ _ e in
+      let b = then-zero _ _ (a .1) in
+      let c = then-zero _ _ (b .1) in
+      let d = then-zero _ _ (c .1) in
+      let f = then-zero _ _ (d .1) in
+      record {
+        sizes = size-good s (a .0);
+        header = header-exact s .0 (b .0);
+        few = records-good (c .0) .0;
+        each = records-good (c .0) .1;
+        trailer = trailer-exact s .0 (d .0);
+        counts = counts-good s (f .0);
+        keys = keys-good s (f .1);
+      }
+
+  pub good-read : Stages exempt s → readOf exempt s ≡ accepted
+  unfolding readOf
+  good-read m =
+      then-second _ _ (number-of (good-size s (m .sizes))) ∙
+      (then-second _ _ (header-exact s .1 (m .header)) ∙
+      (then-second _ _ (number-of (good-records (m .few) (m .each))) ∙
+      (then-second _ _ (trailer-exact s .1 (m .trailer)) ∙
+      (then-second _ _ (number-of (good-counts s (m .counts))) ∙ good-keys s (m .keys)))))
+
+  pub stages-exact : (readOf exempt s ≡ accepted) ↔ Stages exempt s
+  stages-exact = (λ e. read-good (number-of e), good-read)

@@ -1,0 +1,2 @@
+-- What may be sent as evidence.
+pub mod Evidence

@@ -1,0 +1,2 @@
+// The kinds of consent evidence, with their extensions and sizes.
+pub mod allowed;

@@ -1,0 +1,13 @@
+-- The table holds the rows of `exemptRows`.
+use Rattle.rows.specs.Laid.{laid, laidOut}
+use Rattle.evidence_rows.specs.Tables.{recordRows, front}
+use mathlib.Core.Path.{refl}
+use Rattle.evidence_rows.proofs.by_role.exempt.Statement.{statement}
+use Rattle.evidence_rows.proofs.by_role.exempt.Tie as tie
+
+returns : tie.Need-returns
+unfolding laidOut laid recordRows front
+returns c = refl
+
+pub exempt-spec : {M : Type 1} → statement M
+exempt-spec = tie.close (tie.spec returns)

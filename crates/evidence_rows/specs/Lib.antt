@@ -1,0 +1,2 @@
+-- The layout of an evidence file.
+pub mod Tables
