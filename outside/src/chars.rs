@@ -45,6 +45,11 @@ pub fn passbook_text(text: &[u8]) -> bool {
     text.iter().all(|&b| b >= 0x20)
 }
 
+/// An institution code: "99", then eight digits.
+pub fn institution_code(text: &[u8]) -> bool {
+    text.len() == 10 && text.starts_with(b"99") && digits(text)
+}
+
 /// A real date YYMMDD: 20YY, month 01 to 12, a day that this month has.
 pub fn real_date(text: &[u8]) -> bool {
     let Some(date) = number(text) else {

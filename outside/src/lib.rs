@@ -9,6 +9,7 @@
 //!
 //! * [`model`]: what the treasurer is told: [`Answer`], [`Outcome`], [`Step`];
 //! * [`chars`]: characters, numbers and dates;
+//! * `checked`: one record against its rules, item by item;
 //! * [`layout`]: file kinds, pair kinds, item lengths, table codes;
 //! * [`read`](mod@read): one file is read;
 //! * [`write`](mod@write): one request file is written;
@@ -30,6 +31,7 @@
 pub mod apart;
 pub mod bridge;
 pub mod chars;
+mod checked;
 pub mod coverage;
 pub mod gen;
 pub mod layout;

@@ -2,8 +2,10 @@
 //! (4 and 5 as met), then 6 by item, then 7.
 
 use crate::chars::{
-    code_text, digits, filled_code_text, free_text, number, passbook_text, real_date, spaces, zeros,
+    code_text, digits, filled_code_text, free_text, institution_code, number, passbook_text, real_date,
+    spaces,
 };
+use crate::checked::Checked;
 use crate::layout::{is_table_code, Kind, PairKind, Record, MOST_RECORDS};
 use crate::model::Answer;
 use std::collections::HashSet;
@@ -70,69 +72,10 @@ fn check_items(file: &Records) -> Result<(), Answer> {
     check_trailer(&trailer, file.kind, &file.header)
 }
 
-/// A record that is being checked, with its number in the file.
-struct Checked<'a> {
-    record: Record<'a>,
-    place: usize,
-}
-
-impl<'a> Checked<'a> {
-    fn new(record: Record<'a>, place: usize) -> Checked<'a> {
-        Checked { record, place }
-    }
-
-    fn item(&self, item: usize) -> &'a [u8] {
-        self.record.item(item)
-    }
-
-    /// The item keeps a rule, or it is 4 with this code.
-    fn keeps(&self, item: usize, rule: bool, code: &[u8; 4]) -> Result<(), Answer> {
-        if rule {
-            Ok(())
-        } else {
-            Err(Answer::broken(self.place, item, code))
-        }
-    }
-
-    /// The item agrees with the kind or the header, or it is 5.
-    fn agrees(&self, item: usize, agreement: bool) -> Result<(), Answer> {
-        if agreement {
-            Ok(())
-        } else {
-            Err(Answer::placed(5, self.place, item))
-        }
-    }
-
-    /// The item is of a character class.
-    fn class(&self, item: usize, class: fn(&[u8]) -> bool, code: &[u8; 4]) -> Result<(), Answer> {
-        self.keeps(item, class(self.item(item)), code)
-    }
-
-    fn fixed(&self, item: usize, bytes: &[u8]) -> Result<(), Answer> {
-        self.keeps(item, self.item(item) == bytes, b"0081")
-    }
-
-    /// "sp"
-    fn spaces(&self, item: usize) -> Result<(), Answer> {
-        self.class(item, spaces, b"0089")
-    }
-
-    /// "zero"
-    fn zero(&self, item: usize) -> Result<(), Answer> {
-        self.class(item, zeros, b"0090")
-    }
-
-    /// The item repeats the same item of the header.
-    fn as_header(&self, item: usize, header: &Record) -> Result<(), Answer> {
-        self.agrees(item, self.item(item) == header.item(item))
-    }
-}
-
 fn check_header(header: &Checked, kind: Kind) -> Result<(), Answer> {
     header.fixed(1, b"H")?;
     header.fixed(2, b"00000000")?;
-    let code = header.item(3);
-    header.keeps(3, code.starts_with(b"99") && digits(code), b"0088")?;
+    header.class(3, institution_code, b"0088")?;
     let (name_kind, name_day) = header.item(4).split_at(4);
     header.agrees(4, name_kind == kind.letters())?;
     header.keeps(4, digits(name_day), b"0088")?;
