@@ -62,6 +62,11 @@ pub fn real_date(text: &[u8]) -> bool {
     day >= 1 && day <= days(year, month)
 }
 
+/// A real date YYYYMMDD of the years 2000 to 2099.
+pub fn real_full_date(text: &[u8]) -> bool {
+    text.strip_prefix(b"20").is_some_and(real_date)
+}
+
 /// How many days a month has; none in a month that isn't one.
 fn days(year: u64, month: u64) -> u64 {
     match month {

@@ -168,8 +168,14 @@ impl<'a> Record<'a> {
 
     /// The bytes of item 1, 2, 3, ...
     pub fn item(&self, item: usize) -> &'a [u8] {
-        let start: usize = self.lengths[..item - 1].iter().sum();
-        &self.bytes[start..start + self.lengths[item - 1]]
+        self.items_from(item, item)
+    }
+
+    /// The bytes of items first to last, one behind the other.
+    pub fn items_from(&self, first: usize, last: usize) -> &'a [u8] {
+        let start: usize = self.lengths[..first - 1].iter().sum();
+        let length: usize = self.lengths[first - 1..last].iter().sum();
+        &self.bytes[start..start + length]
     }
 
     /// How many items there are.

@@ -7,7 +7,7 @@
 //! The reference, of which every function takes any bytes and any numbers, and
 //! none panics:
 //!
-//! * [`model`]: what the treasurer is told: [`Answer`], [`Outcome`], [`Step`];
+//! * [`model`]: what the treasurer is told: [`Answer`], [`Outcome`], [`Step`], [`EvidencePart`];
 //! * [`chars`]: characters, numbers and dates;
 //! * `checked`: one record against its rules, item by item;
 //! * [`layout`]: file kinds, pair kinds, item lengths, table codes;
@@ -16,7 +16,8 @@
 //! * [`apart`](mod@apart): one request file is taken apart;
 //! * [`pair`](mod@pair): a request meets its result, and one request's outcome;
 //! * [`walk`](mod@walk): record k + 1 of a file, or the end;
-//! * [`post`](mod@post): the posting program's output.
+//! * [`post`](mod@post): the posting program's output;
+//! * [`evidence`]: consent evidence is read, written, and compared with enrolments.
 //!
 //! For the comparison:
 //!
@@ -33,6 +34,7 @@ pub mod bridge;
 pub mod chars;
 mod checked;
 pub mod coverage;
+pub mod evidence;
 pub mod gen;
 pub mod layout;
 #[cfg(target_arch = "x86_64")]
@@ -48,7 +50,8 @@ pub mod walk;
 pub mod write;
 
 pub use apart::apart;
-pub use model::{eight, nine, six, Answer, Outcome, Step};
+pub use evidence::{evidence_compare, evidence_part, evidence_read, evidence_write};
+pub use model::{eight, eight_of_part, nine, six, Answer, EvidencePart, Outcome, Step};
 pub use pair::{outcome, pair};
 pub use post::{post, post_into};
 pub use read::read;

@@ -10,7 +10,7 @@ pub const BLANK_CODE: [u8; 4] = *b"    ";
 #[derive(Clone, Copy, Debug, PartialEq, Eq, Hash, PartialOrd, Ord)]
 pub struct Answer {
     /// 0 single file or the pair itself; 1, 2 when the pair's request or
-    /// result is refused by reading.
+    /// result, or the enrolments or the evidence, is refused by reading.
     pub side: u64,
     /// The number of the refusal, 0 when accepted.
     pub number: u64,
@@ -31,7 +31,7 @@ impl Answer {
         Answer::placed(number, 0, 0)
     }
 
-    /// A number with record and item, and no code: 5, 6, 7, 12, 13, 14.
+    /// A number with record and item, and no code: 5, 6, 7, 12, 13, 14, 20, 21.
     pub fn placed(number: u64, record: usize, item: usize) -> Answer {
         Answer { side: 0, number, record: record as u64, item: item as u64, code: NO_CODE }
     }
@@ -121,7 +121,18 @@ pub enum Step {
     End,
 }
 
-/// The six numbers of `cms_apart`.
+/// Where a record's evidence lies.
+#[derive(Clone, Copy, Debug, PartialEq, Eq, Hash)]
+pub enum EvidencePart {
+    /// Nowhere, because the file was refused.
+    None,
+    /// Here: its first byte in the file, and its length.
+    Part { start: u64, length: u64 },
+    /// There is no record of that number.
+    NoRecord,
+}
+
+/// The six numbers of `cms_apart` and `cms_evidence_write`.
 pub fn six(answer: &Answer, length: u64) -> [u64; 6] {
     let [side, number, record, item, code] = answer.five();
     [side, number, record, item, code, length]
@@ -150,6 +161,17 @@ pub fn eight(answer: &Answer, step: &Step) -> [u64; 8] {
         Step::None => [0, 0, 0],
         Step::Record { start, length } => [1, start, length],
         Step::End => [2, 0, 0],
+    };
+    [side, number, record, item, code, case, start, length]
+}
+
+/// The eight numbers of `cms_evidence_part`.
+pub fn eight_of_part(answer: &Answer, part: &EvidencePart) -> [u64; 8] {
+    let [side, number, record, item, code] = answer.five();
+    let [case, start, length] = match *part {
+        EvidencePart::None => [0, 0, 0],
+        EvidencePart::Part { start, length } => [1, start, length],
+        EvidencePart::NoRecord => [2, 0, 0],
     };
     [side, number, record, item, code, case, start, length]
 }

@@ -23,16 +23,16 @@ const EB22: u32 = 0x4542_3232;
 const CODE: &str = "9912345678";
 const DATE: &str = "240315";
 
-fn answer(side: u64, number: u64, record: u64, item: u64, code: &str) -> Answer {
+pub(super) fn answer(side: u64, number: u64, record: u64, item: u64, code: &str) -> Answer {
     Answer { side, number, record, item, code: code.as_bytes().try_into().unwrap() }
 }
 
-fn accepted() -> Answer {
+pub(super) fn accepted() -> Answer {
     answer(0, 0, 0, 0, "0000")
 }
 
 /// An enrolment body: kind, payer, result.
-fn enrolment(kind: &str, payer: &str, result: &str) -> Vec<u8> {
+pub(super) fn enrolment(kind: &str, payer: &str, result: &str) -> Vec<u8> {
     let body = format!(
         "{:6}{:1}{:20}{:7}{:16}{:16}{:4}{:2}{:5}{:1}{:12}{:1}{:10}",
         "240310", kind, payer, "0880000", "110123456789", "800101", "", "", result, "", "MEMBER", "", ""
@@ -111,7 +111,7 @@ fn trailer(kind: &str, bodies: &[Vec<u8>]) -> Vec<u8> {
     text.into_bytes()
 }
 
-fn file(kind: &str, bodies: &[Vec<u8>]) -> Vec<u8> {
+pub(super) fn file(kind: &str, bodies: &[Vec<u8>]) -> Vec<u8> {
     let mut file = header(kind);
     for (before, body) in bodies.iter().enumerate() {
         file.extend(format!("R{:08}{CODE}", before + 1).into_bytes());
@@ -134,7 +134,7 @@ fn length(kind: &str) -> usize {
 }
 
 /// Bytes put into a record, at a start of the layout papers.
-fn put(kind: &str, file: &[u8], record: usize, start: usize, text: &[u8]) -> Vec<u8> {
+pub(super) fn put(kind: &str, file: &[u8], record: usize, start: usize, text: &[u8]) -> Vec<u8> {
     let mut file = file.to_vec();
     let at = record * length(kind) + start;
     file[at..at + text.len()].copy_from_slice(text);

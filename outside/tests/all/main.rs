@@ -10,6 +10,7 @@ mod compare_write;
 mod contracts;
 mod items;
 mod itself;
+mod itself_evidence;
 mod promises;
 mod samples;
 mod stack;
