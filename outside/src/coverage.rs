@@ -4,6 +4,7 @@
 //! The lists below do not use the reader: they are a second writing of the
 //! rules, so an answer that stands in no list is a finding, too.
 
+use crate::evidence::layout::Profile;
 use crate::layout::{Kind, PairKind};
 use crate::model::{Answer, NO_CODE};
 use std::collections::BTreeMap;
@@ -19,6 +20,17 @@ pub enum Operation {
     Pair(Option<PairKind>),
     Outcome(Option<PairKind>),
     Post,
+    EvidenceRead(Profile),
+    EvidencePart(Profile),
+    EvidenceWrite(Profile),
+    EvidenceCompare(Profile),
+}
+
+impl Operation {
+    pub fn is_of_evidence(&self) -> bool {
+        use Operation::*;
+        matches!(self, EvidenceRead(_) | EvidencePart(_) | EvidenceWrite(_) | EvidenceCompare(_))
+    }
 }
 
 /// The part of the file that an answer points into.
@@ -318,6 +330,71 @@ const DEBIT_RESULTS: &[Row] = &[
     (14, 13, NONE),
 ];
 
+// Evidence; both profiles can give the same answers.
+
+const EVIDENCE_HEADER: &[Row] = &[
+    (4, 1, "0081"),
+    (4, 2, "0081"),
+    (4, 3, "0081"),
+    (4, 4, "9998"),
+    (4, 5, "0088"),
+    (4, 6, "0088"),
+    (4, 7, "0089"),
+    (6, 6, NONE),
+];
+
+const EVIDENCE_DATA: &[Row] = &[
+    (4, 1, "0081"),
+    (4, 2, "0081"),
+    (4, 3, "0081"),
+    (4, 4, "0089"),
+    (4, 5, "0088"),
+    (5, 5, NONE),
+    (4, 6, "0098"),
+    (4, 7, "0088"),
+    (4, 8, "0098"),
+    (4, 9, "9998"),
+    (4, 10, "0101"),
+    (4, 11, "0102"),
+    (4, 12, "0088"),
+    (4, 12, "0103"),
+    (4, 14, "0089"),
+    (7, 6, NONE),
+];
+
+const EVIDENCE_TRAILER: &[Row] = &[
+    (4, 1, "0081"),
+    (4, 2, "0081"),
+    (4, 3, "0081"),
+    (4, 4, "0088"),
+    (5, 4, NONE),
+    (4, 5, "0088"),
+    (4, 6, "0088"),
+    (4, 7, "0089"),
+    (6, 5, NONE),
+    (6, 6, NONE),
+];
+
+// Items 1 to 5, the filler and the trailer are the writer's own.
+
+const EVIDENCE_WRITTEN_HEADER: &[Row] = &[(4, 4, "9998"), (4, 5, "0088")];
+
+const EVIDENCE_WRITTEN_DATA: &[Row] = &[
+    (4, 6, "0098"),
+    (4, 7, "0088"),
+    (4, 8, "0098"),
+    (4, 9, "9998"),
+    (4, 10, "0101"),
+    (4, 11, "0102"),
+    (4, 12, "0088"),
+    (4, 12, "0103"),
+    (7, 6, NONE),
+];
+
+const EVIDENCE_HEADERS: &[Row] = &[(12, 3, NONE), (12, 5, NONE)];
+
+const EVIDENCE_MISSING_OR_FOREIGN: &[Row] = &[(20, 6, NONE), (21, 6, NONE)];
+
 /// Every answer that the rules can give.
 pub fn all() -> Vec<Entry> {
     let mut list = List::default();
@@ -349,6 +426,9 @@ pub fn all() -> Vec<Entry> {
     list.placeless(Operation::Outcome(None), 0, &[1]);
     list.placeless(Operation::Post, 0, &[0]);
     list.pairing(Operation::Post, PairKind::Debit);
+    for profile in Profile::ALL {
+        list.evidence(profile);
+    }
     list.0
 }
 
@@ -395,6 +475,31 @@ impl List {
         self.placeless(Operation::Write(Some(Kind::EB14)), 0, &[1]);
         self.placeless(Operation::Write(Some(Kind::EB22)), 0, &[1]);
         self.placeless(Operation::Write(None), 0, &[1]);
+    }
+
+    fn evidence(&mut self, profile: Profile) {
+        for operation in [Operation::EvidenceRead(profile), Operation::EvidencePart(profile)] {
+            self.placeless(operation, 0, &[0]);
+            self.evidence_reading(operation, 0);
+        }
+        let writing = Operation::EvidenceWrite(profile);
+        self.placeless(writing, 0, &[0, 2, 3, 8]);
+        self.rows(writing, 0, Part::Header, EVIDENCE_WRITTEN_HEADER);
+        self.rows(writing, 0, Part::Data, EVIDENCE_WRITTEN_DATA);
+        let comparing = Operation::EvidenceCompare(profile);
+        self.placeless(comparing, 0, &[0]);
+        self.placeless(comparing, 1, &[2, 3]);
+        self.reading(comparing, 1, Kind::EB13);
+        self.evidence_reading(comparing, 2);
+        self.rows(comparing, 0, Part::Header, EVIDENCE_HEADERS);
+        self.rows(comparing, 0, Part::Data, EVIDENCE_MISSING_OR_FOREIGN);
+    }
+
+    fn evidence_reading(&mut self, operation: Operation, side: u64) {
+        self.placeless(operation, side, &[2, 3]);
+        self.rows(operation, side, Part::Header, EVIDENCE_HEADER);
+        self.rows(operation, side, Part::Data, EVIDENCE_DATA);
+        self.rows(operation, side, Part::Trailer, EVIDENCE_TRAILER);
     }
 
     /// What the two files and their meeting give, whoever asks.

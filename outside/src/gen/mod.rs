@@ -5,6 +5,17 @@
 //! and then spoiled in many ways.  The same seed gives the same inputs.
 
 mod draft;
+mod evidence_draft;
+mod evidence_files;
+mod evidence_good;
+mod evidence_items;
+mod evidence_mending;
+mod evidence_moved;
+mod evidence_pairs;
+mod evidence_places;
+mod evidence_spoiling;
+mod evidence_texts;
+mod evidence_writes;
 mod files;
 mod items;
 mod items_changed;
@@ -22,6 +33,14 @@ mod texts;
 mod writes;
 
 pub use draft::{Draft, LARGEST_AMOUNT};
+pub use evidence_draft::{given_item, EvidenceDraft, Given};
+pub use evidence_files::{any_evidence, evidence_of_blocks, profile_number};
+pub use evidence_good::{any_evidence_bytes, evidence_of, extensions, good_evidence, most_evidence};
+pub use evidence_mending::{mend_evidence_codes, mend_evidence_counts, mend_evidence_serials};
+pub use evidence_pairs::{any_enrolments_with_evidence, evidence_for};
+pub use evidence_places::{evidence_blocks, evidence_records};
+pub use evidence_spoiling::spoil_evidence;
+pub use evidence_writes::{any_evidence_write, EvidenceWriteInput};
 pub use files::{any_file, unknown_kind};
 pub use items::body_item;
 pub use lent::{any_bodies, any_lists, any_place};

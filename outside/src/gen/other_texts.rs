@@ -17,12 +17,17 @@ pub(super) struct DataItem<'a> {
 /// A text of the same length, of some class; `data_item` when it is for an
 /// item of a data record.
 pub(super) fn other_text(rng: &mut Rng, kind: Kind, data_item: Option<DataItem>, old: &[u8]) -> Vec<u8> {
-    let length = old.len();
     if let Some(item) = data_item {
         if let Some(text) = text_for_item(rng, kind, item) {
             return text;
         }
     }
+    text_of_any_class(rng, old)
+}
+
+/// A text as long as the old one, which has a byte at least.
+pub(super) fn text_of_any_class(rng: &mut Rng, old: &[u8]) -> Vec<u8> {
+    let length = old.len();
     match rng.below(18) {
         0 => spaces(length),
         1 => vec![b'0'; length],

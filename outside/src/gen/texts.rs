@@ -43,7 +43,7 @@ pub(super) fn spaces(length: usize) -> Vec<u8> {
 }
 
 /// The text, then spaces.
-fn padded(text: &[u8], length: usize) -> Vec<u8> {
+pub(super) fn padded(text: &[u8], length: usize) -> Vec<u8> {
     let mut padded = text.to_vec();
     padded.resize(length, b' ');
     padded

@@ -1141,7 +1141,8 @@ struct Run {
 #[test]
 fn generated_inputs() {
     let (seed, count) = (settings::seed(), settings::count(100_000));
-    let mut run = Run { rng: Rng::new(seed), counter: Counter::new(), seen: Seen::default() };
+    let counter = Counter::of(|operation| !operation.is_of_evidence());
+    let mut run = Run { rng: Rng::new(seed), counter, seen: Seen::default() };
     for input in 0..count {
         match input % 5 {
             0 | 2 => run.one_file(),

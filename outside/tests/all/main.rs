@@ -11,6 +11,7 @@ mod contracts;
 mod items;
 mod itself;
 mod itself_evidence;
+mod itself_evidence_generated;
 mod promises;
 mod samples;
 mod stack;
