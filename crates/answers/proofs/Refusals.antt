@@ -5,10 +5,11 @@ use mathlib.Core.Bool.{true, false}
 use mathlib.Core.Path.{_≡_, sym, _∙_, ap}
 use mathlib.Core.Logic.{⊎-elim, _⊎_, inl, inr}
 use native.Mathlib.Nat.{le-refl, eq-or-lt-of-le}
+use native.Mathlib.Omega.{arith}
 use borrow.Author.Tests.{lt-ltb, le-ltb, not-false, not-true, eqb-true, eqb-false, eq-eqb, ne-eqb}
 use Rattle.laws.specs.Least.{least}
 use Rattle.laws.proofs.Bools.{either}
-use Rattle.laws.proofs.Leasts.{least-is, least-more, least-stop, least-again, least-before}
+use Rattle.laws.proofs.Leasts.{least-is, least-more, least-stop, least-again, least-before, least-none}
 use Rattle.answers.specs.declared.told.Answer.{Answer}
 use Rattle.answers.specs.Answers.{accepted, refuses, refusesAt, toldAt, firstTold, _then_}
 
@@ -111,3 +112,24 @@ module _ (f : ℕ → Answer) where
 
   pub told-all : (n : ℕ) → All-good n → firstTold f n ≡ accepted
   told-all n g = ⊎-elim (λ a. a .told) (λ b. absurd (b .1 .bad (g (b .0) (b .1 .below)))) (told n)
+
+-- none before i is refused
+pub so-far : (f : ℕ → Answer) (i : ℕ) → All-good f i → So-far f i
+unfolding refusesAt
+so-far f i g = least-none (refusesAt f) i (λ m h. refuses-not (f m) (g m h))
+
+-- answer by answer the same
+pub told-same : (f g : ℕ → Answer) (n : ℕ) → ((i : ℕ) → i < n → f i ≡ g i) → firstTold f n ≡ firstTold g n
+told-same f g n e = ⊎-elim good bad (told f n)
+  where
+    same : (i : ℕ) → i < n → f i .number ≡ 0 → g i .number ≡ 0
+    same i h z = number-of (sym (e i h)) ∙ z
+
+    good : Good f n → firstTold f n ≡ firstTold g n
+    good a = a .told ∙ sym (told-all g n (λ i h. same i h (a .all i h)))
+
+    bad : ((i : ℕ) × First f n i) → firstTold f n ≡ firstTold g n
+    bad b =
+        let i = b .0 in
+        let l = b .1 .below in
+        b .1 .told ∙ (e i l ∙ sym (told-stop g i n l (so-far g i (λ m h. same m (omega (arith, l)) (b .1 .before m h))) (λ z. b .1 .bad (number-of (e i l) ∙ z))))

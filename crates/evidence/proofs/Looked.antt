@@ -7,19 +7,22 @@ use mathlib.Core.Logic.{⊎-elim}
 use mathlib.Core.Path.{_≡_, refl, sym, _∙_}
 use native.Mathlib.Nat.{eq-or-lt-of-le}
 use native.Mathlib.Omega.{arith}
-use borrow.Author.Tests.{leb-true, eqb-true}
+use borrow.Author.Tests.{leb-true, eqb-true, lt-ltb}
 use lib.Dec.{leb, eqb}
 use lib.ListN.{length, getD, drop, List·getD-append}
+use Rattle.laws.specs.Least.{least}
+use Rattle.laws.specs.Part.{same}
 use Rattle.laws.specs.Tabulate.{tabulate}
 use Rattle.laws.proofs.Bools.{and-left, and-right}
-use Rattle.laws.proofs.Leasts.{least-none}
+use Rattle.laws.proofs.Leasts.{least-none, least-some, some-true}
 use Rattle.laws.proofs.Tabs.{tab-at, tab-length, fill-start}
 use Rattle.answers.specs.Answers.{accepted, refused, refusesAt, _then_}
 use Rattle.answers.proofs.Refusals.{number-of, refuses-not, refuses-is, then-first, then-second, then-zero, all-told}
+use Rattle.keys.specs.Keys.{sharesIn, repeatsIn}
 use Rattle.kinds.specs.Kinds.{limit}
 use Rattle.evidence.specs.Blocks.{block, mostBlocks, blocksIn, startOf, recordsIn}
 use Rattle.evidence.specs.Judged.{headerTold, recordTold, recordsTold, goodTo, byteOf, trailerTold}
-use Rattle.evidence.specs.Reading.{isWhole, sizeTold, countsTold, keysTold, readOf, goodIn, placesOf}
+use Rattle.evidence.specs.Reading.{isWhole, sizeTold, countsTold, keyOf, repeatTold, keysTold, readOf, goodIn, placesOf}
 use Rattle.evidence.proofs.Walks.{record-begins, records-most, block-inside}
 use Rattle.evidence.proofs.Told.{record-limit}
 
@@ -96,6 +99,15 @@ module _ (exempt : Bool) (s : List ℕ) where
   pub read-all : readOf exempt s .number ≡ 0 → goodIn exempt s ≡ recordsIn s
   read-all e = let g = read-good e in good-records (g .0) (g .1 .0) ∙ all-good (g .1 .1)
 
+  pub read-keys : readOf exempt s .number ≡ 0 → keysTold s .number ≡ 0
+  unfolding readOf
+  read-keys e =
+      let t = then-zero (sizeTold s) _ e in
+      let u = then-zero (headerTold s) _ (t .1) in
+      let v = then-zero (recordsTold exempt s) _ (u .1) in
+      let w = then-zero (trailerTold s) _ (v .1) in
+      then-zero (countsTold s) _ (w .1) .1
+
   -- what stands in the places
   pub places-none : (old : List ℕ) → goodIn exempt s ≡ 0 → old ≡ placesOf exempt s old
   unfolding placesOf
@@ -111,3 +123,12 @@ module _ (exempt : Bool) (s : List ℕ) where
 pub first-inside : (s : List ℕ) (i : ℕ) → i < recordsIn s → byteOf s i + 1024 ≤ length s
 unfolding byteOf
 first-inside s i l = block-inside s (startOf s i) (omega (arith, record-begins s i l))
+
+-- no key is an earlier one's
+pub keys-apart :
+    (s : List ℕ) → keysTold s .number ≡ 0 → (i j : ℕ) → i < j → j < recordsIn s → same (keyOf s j) (keyOf s i) ≡ true → ⊥
+unfolding keysTold repeatTold repeatsIn sharesIn
+keys-apart s z i j l h t =
+    let found = least-some (repeatsIn (keyOf s)) (recordsIn s) j h (some-true (sharesIn (keyOf s) j) j i l t) in
+    let seven : _≡_ {A = ℕ} 7 0 = rw (lt-ltb (least (repeatsIn (keyOf s)) (recordsIn s)) (recordsIn s) found) at z in
+    absurd (omega (arith, seven))

@@ -23,7 +23,7 @@ next-inside s b h l = omega (arith, block-inside s (b + blocksFor (lengthAt s b)
 
 -- a list that holds the first byte of each of n records
 module _ (s places : List ℕ) (n : ℕ) (holds : (i : ℕ) → i < n → getD places i 0 ≡ byteOf s i) where
-  listed : (i : ℕ) → i < n → keyIn places (anywhere 45 61) s i ≡ keyOf s i
+  pub listed : (i : ℕ) → i < n → keyIn places (anywhere 45 61) s i ≡ keyOf s i
   unfolding keyOf
   listed i h = listed-key places 45 61 s i ∙ rw (holds i h)
 

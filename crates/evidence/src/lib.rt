@@ -3,4 +3,4 @@ pub mod blocks;
 mod judged;
 pub mod lying;
 pub mod reading;
-mod totals;
+pub mod totals;

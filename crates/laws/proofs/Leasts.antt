@@ -2,13 +2,13 @@
 -- Assumes nothing.
 use Prim.Native.Nat.{ℕ, zero, suc, _+_, _≤_, _<_, zero-le}
 use mathlib.Core.Bool.{Bool, true, false}
-use mathlib.Core.Path.{_≡_, refl, _∙_}
+use mathlib.Core.Path.{_≡_, refl, sym, _∙_}
 use mathlib.Core.Logic.{⊎-elim}
 use native.Mathlib.Nat.{le-refl, eq-or-lt-of-le, le-of-suc-le-suc, not-suc-le-zero}
 use native.Mathlib.Numerals.{add-one}
 use native.Mathlib.Omega.{arith}
 use borrow.Author.Tests.{lt-ltb, le-ltb, ltb-true, ltb-false, eq-eqb, ne-eqb, eqb-true}
-use lib.Dec.{ltb}
+use lib.Dec.{ltb, eqb}
 use Rattle.laws.specs.Least.{least, further, some, none}
 use Rattle.laws.proofs.Bools.{either, clash}
 
@@ -128,6 +128,23 @@ none-each p n t = least-before p n (eqb-true (least p n) n t)
 
 pub none-if : (p : ℕ → Bool) (n : ℕ) → ((k : ℕ) → k < n → p k ≡ false) → none p n ≡ true
 none-if p n f = none-true p n (least-none p n f)
+
+-- one place more
+pub none-more : (p : ℕ → Bool) (n : ℕ) → p n ≡ false → none p (n + 1) ≡ none p n
+unfolding none
+none-more p n f = ⊎-elim all some (eq-or-lt-of-le (least-is p n .within))
+  where
+    all : least p n ≡ n → eqb (least p (n + 1)) (n + 1) ≡ eqb (least p n) n
+    all e = eq-eqb (least p (n + 1)) (n + 1) (least-more p n e f) ∙ sym (eq-eqb (least p n) n e)
+
+    some : least p n < n → eqb (least p (n + 1)) (n + 1) ≡ eqb (least p n) n
+    some h =
+        let l = least-some p (n + 1) (least p n) (omega arith) (least-is p n .holds h) in
+        ne-eqb (least p (n + 1)) (n + 1) (λ q. absurd (omega (arith, q, l))) ∙ sym (ne-eqb (least p n) n (λ q. absurd (omega (arith, q, h))))
+
+pub none-last : (p : ℕ → Bool) (n : ℕ) → p n ≡ true → none p (n + 1) ≡ false
+unfolding none
+none-last p n t = ne-eqb (least p (n + 1)) (n + 1) (λ q. absurd (omega (arith, q, least-some p (n + 1) n (omega arith) t)))
 
 pub some-true : (p : ℕ → Bool) (n k : ℕ) → k < n → p k ≡ true → some p n ≡ true
 unfolding some

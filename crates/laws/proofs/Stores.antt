@@ -1,11 +1,11 @@
 -- The laws of `stored`.
 -- Assumes nothing.
-use Prim.Native.Nat.{ℕ, _+_, _-_}
+use Prim.Native.Nat.{ℕ, _+_, _-_, _≤_}
 use mathlib.Core.List.{List, [], _++_, append-assoc, append-nil}
-use mathlib.Core.Path.{_≡_, sym}
-use native.Mathlib.Nat.{le-refl}
-use lib.ListN.{length, take, drop, length-drop, drop-of-length-le}
-use lib.Seq.{take-length, drop-drop}
+use mathlib.Core.Path.{_≡_, sym, _∙_}
+use native.Mathlib.Nat.{le-refl, add-assoc}
+use lib.ListN.{length, take, drop, length-append, length-drop, drop-of-length-le}
+use lib.Seq.{take-length, take-at, drop-append-add, drop-drop, length-take-le}
 use Rattle.laws.specs.Stored.{stored}
 use Rattle.laws.proofs.Parts.{rest}
 
@@ -19,3 +19,21 @@ copied at x room last e =
   where
     none : drop (length room - at) (drop at room) ≡ []
     none = drop-of-length-le (drop at room) {i = length room - at} (rw length-drop (le-refl (length room - at)))
+
+-- what is stored behind what was stored
+module _ (at : ℕ) (x old : List ℕ) (fits : at ≤ length old) where
+  front-length : length (take at old ++ x) ≡ at + length x
+  front-length = length-append (take at old) x ∙ rw (length-take-le at old fits)
+
+  pub stored-next : (y : List ℕ) → stored (at + length x) y (stored at x old) ≡ stored at (x ++ y) old
+  stored-next y =
+      rw (
+        take-at (take at old ++ x) (drop (at + length x) old) (at + length x) front-length,
+        ← front-length,
+        drop-append-add,
+        drop-drop,
+        front-length,
+        length-append x y,
+        ← add-assoc at (length x) (length y),
+        append-assoc (take at old) x y,
+      )

@@ -16,7 +16,8 @@ use matching::lookup;
 use reader::reading;
 use records::listed;
 
-fn on_side(side: u64, answer: Answer) -> Answer
+// The answer, as one about one side of the pair.
+pub fn on_side(side: u64, answer: Answer) -> Answer
     ensures { λ r. ⌜ r ≡ onSide side answer ⌝ }
 {
     Answer {

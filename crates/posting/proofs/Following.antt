@@ -1,16 +1,17 @@
 -- A text that is put behind another.
 -- Assumes nothing.
 use Prim.Native.Nat.{ℕ, _+_, _≤_, _<_}
-use mathlib.Core.List.{List, [], _++_, append-assoc, append-nil}
+use mathlib.Core.List.{List, [], _++_, append-nil}
 use mathlib.Core.Path.{_≡_, sym, _∙_}
-use native.Mathlib.Nat.{add-zero, add-assoc, zero-add}
+use native.Mathlib.Nat.{add-zero, zero-add}
 use native.Mathlib.Numerals.{add-one}
 use native.Mathlib.Omega.{arith}
 use lib.ListN.{length, getD, set, take, drop, length-append, take-append-drop}
-use lib.Seq.{paste, paste-suc, take-length, take-at, drop-append-add, drop-drop, length-take-le}
+use lib.Seq.{paste, paste-suc, take-length, take-at}
 use Rattle.laws.specs.Joined.{joined}
 use Rattle.laws.proofs.Joins.{joined-start, joined-more}
 use Rattle.laws.specs.Stored.{stored}
+use Rattle.laws.proofs.Stores.{stored-next}
 
 -- x was put at `at` of a buffer, r is the place after it, and `new` is the buffer afterwards
 pub record Put (at : ℕ) (x old : List ℕ) (r : ℕ) (new : List ℕ) : Type 0 where
@@ -20,29 +21,12 @@ pub record Put (at : ℕ) (x old : List ℕ) (r : ℕ) (new : List ℕ) : Type 0
 pub put : (x : List ℕ) {at r : ℕ} {old new : List ℕ} → r ≡ at + length x → new ≡ stored at x old → Put at x old r new
 put x p a = record { place = p; after = a }
 
-module _ (at : ℕ) (x old : List ℕ) (fits : at ≤ length old) where
-  front-length : length (take at old ++ x) ≡ at + length x
-  front-length = length-append (take at old) x ∙ rw (length-take-le at old fits)
-
-  put-put : (y : List ℕ) → stored (at + length x) y (stored at x old) ≡ stored at (x ++ y) old
-  put-put y =
-      rw (
-        take-at (take at old ++ x) (drop (at + length x) old) (at + length x) front-length,
-        ← front-length,
-        drop-append-add,
-        drop-drop,
-        front-length,
-        length-append x y,
-        ← add-assoc at (length x) (length y),
-        append-assoc (take at old) x y,
-      )
-
 -- one after the other
 pub put-then :
     {at r r₂ : ℕ} {x y old new new₂ : List ℕ} → Put at x old r new → Put r y new r₂ new₂ → at ≤ length old → Put at (x ++ y) old r₂ new₂
 put-then {at} {r} {r₂} {x} {y} {old} {new} {new₂} a b fits = record {
   place = b .place ∙ rw (a .place, length-append x y) (omega arith);
-  after = b .after ∙ rw (a .after, a .place) (put-put at x old fits y);
+  after = b .after ∙ rw (a .after, a .place) (stored-next at x old fits y);
 }
 
 -- nothing is put

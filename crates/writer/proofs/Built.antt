@@ -20,7 +20,7 @@ use Rattle.kinds.specs.Kinds.{fixedOf, limit}
 use Rattle.tables.specs.declared.totals.Quantity.{Quantity}
 use Rattle.tables.specs.Totals.{noTotal, totalsOf}
 use Rattle.answers.specs.Answers.{_then_}
-use Rattle.answers.proofs.Refusals.{number-of, then-second}
+use Rattle.answers.proofs.Refusals.{number-of, then-second, told-same}
 use Rattle.records.specs.Records.{recordAt, recordOf, countOf, keyAt}
 use Rattle.records.specs.Quantities.{worth, worthAt, quantityOf}
 use Rattle.keys.specs.Keys.{sharesIn, repeatsIn}
@@ -44,7 +44,7 @@ use Rattle.builder.proofs.Stores.{part-behind}
 use Rattle.writer.specs.Writing.{bodySpacing, headerTold, dataTold, trailerTold, sumTold, sumsTold, keysTold, builtTold}
 use Rattle.writer.proofs.Taken.{file-count, file-header, file-data}
 use Rattle.writer.proofs.Agree.{file-lengths}
-use Rattle.writer.proofs.Told.{told-same, told-ends}
+use Rattle.writer.proofs.Told.{told-ends}
 
 -- each key lies inside the bodies
 pub keys-inside : (k : Kind) (bodies : List ℕ) → Inside [] (bodySpacing k) bodies (bodyCount k bodies)

@@ -10,14 +10,9 @@ use native.Mathlib.Omega.{arith}
 use borrow.Author.Tests.{ltb-true, ltb-false}
 use lib.Dec.{ltb}
 use Rattle.laws.proofs.Bools.{either}
-use Rattle.laws.proofs.Leasts.{least-none}
 use Rattle.answers.specs.declared.told.Answer.{Answer}
-use Rattle.answers.specs.Answers.{refuses, refusesAt, firstTold, _then_}
-use Rattle.answers.proofs.Refusals.{number-of, refuses-not, refuses-zero, refuses-other, then-first, then-second, So-far, told-stop, All-good, First, Good, told, told-all}
-
-so-far : (f : ℕ → Answer) (i : ℕ) → All-good f i → So-far f i
-unfolding refusesAt
-so-far f i g = least-none (refusesAt f) i (λ m h. refuses-not (f m) (g m h))
+use Rattle.answers.specs.Answers.{refuses, firstTold, _then_}
+use Rattle.answers.proofs.Refusals.{number-of, refuses-zero, refuses-other, then-first, then-second, told-stop, All-good, First, Good, told, told-all, so-far}
 
 -- all good, or the first that is not, before what follows
 good-then : (f : ℕ → Answer) (x : Answer) (n : ℕ) → All-good f n → (firstTold f n then x) ≡ x
@@ -25,22 +20,6 @@ good-then f x n g = then-second (firstTold f n) x (number-of (told-all f n g))
 
 bad-then : (f : ℕ → Answer) (x : Answer) (n i : ℕ) → i < n → All-good f i → (f i .number ≡ 0 → ⊥) → (firstTold f n then x) ≡ f i
 bad-then f x n i h g ne = rw (told-stop f i n h (so-far f i g) ne) (then-first (f i) x ne)
-
--- answer by answer the same
-pub told-same : (f g : ℕ → Answer) (n : ℕ) → ((i : ℕ) → i < n → f i ≡ g i) → firstTold f n ≡ firstTold g n
-told-same f g n e = ⊎-elim good bad (told f n)
-  where
-    same : (i : ℕ) → i < n → f i .number ≡ 0 → g i .number ≡ 0
-    same i h z = number-of (sym (e i h)) ∙ z
-
-    good : Good f n → firstTold f n ≡ firstTold g n
-    good a = a .told ∙ sym (told-all g n (λ i h. same i h (a .all i h)))
-
-    bad : ((i : ℕ) × First f n i) → firstTold f n ≡ firstTold g n
-    bad b =
-        let i = b .0 in
-        let l = b .1 .below in
-        b .1 .told ∙ (e i l ∙ sym (told-stop g i n l (so-far g i (λ m h. same m (omega (arith, l)) (b .1 .before m h))) (λ z. b .1 .bad (number-of (e i l) ∙ z))))
 
 -- n + 2 answers before what follows: the first, the n between, the last
 module _ (f : ℕ → Answer) (x : Answer) (n : ℕ) where

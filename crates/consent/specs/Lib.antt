@@ -1,0 +1,3 @@
+-- Enrolments beside their evidence.
+pub mod Comparing
+pub mod Marks

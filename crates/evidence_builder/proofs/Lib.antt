@@ -1,0 +1,3 @@
+-- Laws about the definitions of specs/.
+pub mod Walked
+pub mod Written

@@ -1,0 +1,3 @@
+-- The evidence file to be written.
+pub mod Units
+pub mod Files

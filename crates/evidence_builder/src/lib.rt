@@ -1,0 +1,3 @@
+// The evidence file EI13, to be written from a date, an institution code and units.
+pub mod files;
+pub mod units;
