@@ -40,3 +40,9 @@ impl Answer {
         }
     }
 }
+
+// An answer, and how many bytes were stored at the front of lent room; none when refused.
+pub struct Stored {
+    pub answer: Answer,
+    pub size: usize,
+}

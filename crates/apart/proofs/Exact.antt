@@ -15,13 +15,14 @@ use Rattle.kinds.specs.declared.of_files.Named.{Named}
 use Rattle.kinds.specs.declared.of_files.Named.the-variants.{Is, Unknown}
 use Rattle.answers.specs.declared.told.Answer.{Answer}
 use Rattle.answers.specs.Answers.{accepted, refuses}
+use Rattle.answers.specs.Storing.{storing, atFront}
 use Rattle.answers.proofs.Refusals.{number-of, refuses-zero, refuses-other}
 use Rattle.reader.specs.Reading.{readAs, readOf}
 use Rattle.reader.proofs.Accepted.{read-named, read-zero}
 use Rattle.kinds.specs.Kinds.{requestOf}
 use Rattle.writer.specs.Apart.{bodiesIn}
 use Rattle.writer.proofs.Requests.{request-kind}
-use Rattle.apart.specs.Taking.{apartAs, apartNamed, storedNamed, apartTold, apartStored, taken, atFront, apartOf, apartAfter}
+use Rattle.apart.specs.Taking.{apartAs, apartNamed, storedNamed, apartTold, apartStored, apartOf, apartAfter}
 use Rattle.apart.specs.Says.{Tells, Takes}
 use Rattle.apart.proofs.Stored.{apart-read, apart-8, apart-good, stored-none, stored-all}
 
@@ -65,7 +66,7 @@ module _ (kind : ℕ) (s : List ℕ) (room : ℕ) where
   apart-takes = tells-takes (apartOf kind s room .answer) apart-tells
 
   -- what is answered then, and what is stored
-  pub takes-apart : (t : Takes kind s room) → apartOf kind s room ≡ taken accepted (bodiesIn (t .k) s)
+  pub takes-apart : (t : Takes kind s room) → apartOf kind s room ≡ storing accepted (bodiesIn (t .k) s)
   unfolding apartOf apartTold apartStored
   takes-apart t =
       let k = t .k in

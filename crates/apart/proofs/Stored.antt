@@ -9,15 +9,16 @@ use lib.ListN.{length, drop}
 use Rattle.kinds.specs.declared.of_files.Kind.{Kind}
 use Rattle.kinds.specs.Kinds.{fixedOf}
 use Rattle.answers.specs.declared.told.Answer.{Answer}
+use Rattle.answers.specs.declared.told.Stored.{Stored}
 use Rattle.answers.specs.Answers.{accepted, refused}
+use Rattle.answers.specs.Storing.{unlessRefused, storing, atFront}
 use Rattle.answers.proofs.Refusals.{number-of, refuses-is, refuses-not, then-first, then-second}
 use Rattle.records.specs.Records.{dataOf}
 use Rattle.reader.specs.Reading.{readAs}
 use Rattle.reader.proofs.Accepted.{read-zero}
 use Rattle.writer.specs.Apart.{bodiesIn}
 use Rattle.writer.proofs.Taken.{bodies-length}
-use Rattle.apart.specs.declared.storing.Taken.{Taken}
-use Rattle.apart.specs.Taking.{roomTells, apartAs, storedAs, taken, atFront}
+use Rattle.apart.specs.Taking.{roomTells, apartAs, storedAs}
 
 module _ (k : Kind) (s : List ℕ) (room : ℕ) where
   -- as reading the file; 8 where the room is too short; else accepted
@@ -35,23 +36,23 @@ module _ (k : Kind) (s : List ℕ) (room : ℕ) where
 
   -- a refusal stores nothing; what is accepted is stored whole
   pub stored-none : (apartAs k s room .number ≡ 0 → ⊥) → storedAs k s room ≡ []
-  unfolding storedAs
+  unfolding storedAs unlessRefused
   stored-none ne = rw (refuses-is (apartAs k s room) ne)
 
   pub stored-all : apartAs k s room .number ≡ 0 → storedAs k s room ≡ bodiesIn k s
-  unfolding storedAs
+  unfolding storedAs unlessRefused
   stored-all z = rw (refuses-not (apartAs k s room) z)
 
 -- each return, from the tests on its way
 module _ (k : Kind) (s room : List ℕ) where
-  abbrev pub Told : Taken → List ℕ → Type 0
+  abbrev pub Told : Stored → List ℕ → Type 0
   Told t after =
-      (t ≡ taken (apartAs k s (length room)) (storedAs k s (length room))) × (after ≡ atFront (storedAs k s (length room)) room)
+      (t ≡ storing (apartAs k s (length room)) (storedAs k s (length room))) × (after ≡ atFront (storedAs k s (length room)) room)
 
-  told-bad : (a : Answer) → apartAs k s (length room) ≡ a → (a .number ≡ 0 → ⊥) → Told (taken a []) room
+  told-bad : (a : Answer) → apartAs k s (length room) ≡ a → (a .number ≡ 0 → ⊥) → Told (storing a []) room
   told-bad a e ne = rw (e, stored-none k s (length room) (λ z. ne (number-of (sym e) ∙ z))) (refl, refl)
 
-  pub told-read : (a : Answer) → a ≡ readAs k s → (a .number ≡ 0 → ⊥) → Told (taken a []) room
+  pub told-read : (a : Answer) → a ≡ readAs k s → (a .number ≡ 0 → ⊥) → Told (storing a []) room
   told-read a e ne = told-bad a (apart-read k s (length room) (λ z. ne (number-of e ∙ z)) ∙ sym e) ne
 
   -- of n bodies of w bytes
@@ -62,7 +63,7 @@ module _ (k : Kind) (s room : List ℕ) where
     read : readAs k s .number ≡ 0
     read = number-of (sym e) ∙ z
 
-    pub told-8 : (b : Answer) → length room < n * w → b ≡ refused 8 → Told (taken b []) room
+    pub told-8 : (b : Answer) → length room < n * w → b ≡ refused 8 → Told (storing b []) room
     told-8 b l r =
         told-bad b (apart-8 k s (length room) read (rw long at l) ∙ sym r) (λ o. absurd (eight (number-of (sym r) ∙ o)))
       where

@@ -7,6 +7,7 @@ use lib.ListN.{length, drop}
 use lib.Seq.{take-at}
 use Rattle.kinds.specs.declared.of_files.Kind.{Kind}
 use Rattle.answers.specs.Answers.{accepted}
+use Rattle.answers.specs.Storing.{storing}
 use Rattle.answers.proofs.Refusals.{number-of}
 use Rattle.builder.specs.Records.{Head}
 use Rattle.builder.specs.Files.{fileOf}
@@ -15,7 +16,7 @@ use Rattle.writer.specs.Apart.{headIn, bodiesIn}
 use Rattle.writer.specs.Says.{Bytes, Wrote}
 use Rattle.writer.proofs.Rewritten.{read-written}
 use Rattle.writer.proofs.Trips.{written-read}
-use Rattle.apart.specs.Taking.{taken, apartOf}
+use Rattle.apart.specs.Taking.{apartOf}
 use Rattle.apart.specs.Says.{Takes, headTaken, bodiesTaken, Rewritten, Retaken}
 use Rattle.apart.proofs.Exact.{apart-takes, takes-apart, apart-stored}
 
@@ -53,7 +54,7 @@ written-taken kind h bodies room other z l =
       k = w .k;
       named = w .named;
       stands = w .stands;
-      accepts = takes-apart kind (fileOf (w .k) h bodies) (length other) t ∙ ap (taken accepted) (w .bodies-back);
+      accepts = takes-apart kind (fileOf (w .k) h bodies) (length other) t ∙ ap (storing accepted) (w .bodies-back);
       bodies-back = rw (w .bodies-back) at (apart-stored kind (fileOf (w .k) h bodies) other t);
       head-back = head-taken (w .k) (fileOf (w .k) h bodies) ∙ w .head-back;
     }

@@ -7,13 +7,14 @@ use Rattle.kinds.specs.declared.of_files.Kind.{Kind}
 use Rattle.kinds.specs.declared.of_files.Named.the-variants.{Is, Unknown}
 use Rattle.answers.specs.declared.told.Answer.{Answer}
 use Rattle.answers.specs.Answers.{accepted, refused}
+use Rattle.answers.specs.Storing.{storing, atFront}
 use Rattle.reader.specs.Reading.{readOf}
 use Rattle.builder.specs.Records.{Head, headOf}
 use Rattle.builder.specs.Files.{fileOf}
 use Rattle.writer.specs.Writing.{writeOf, roomAfter}
 use Rattle.kinds.specs.Kinds.{requestOf}
 use Rattle.writer.specs.Apart.{headIn, bodiesIn}
-use Rattle.apart.specs.Taking.{taken, atFront, apartOf, apartAfter}
+use Rattle.apart.specs.Taking.{apartOf, apartAfter}
 
 -- what is said of a file under a number, where there is room for so many bytes
 pub data Tells (kind : ℕ) (s : List ℕ) (room : ℕ) : Answer → Type 0 where
@@ -55,6 +56,6 @@ pub record Retaken (kind : ℕ) (h : Head) (bodies room other : List ℕ) : Type
   pub named : requestOf kind ≡ Is k
   pub stands : roomAfter kind h bodies room ≡ fileOf k h bodies ++ drop (length (fileOf k h bodies)) room
   -- it is accepted, and its bodies and the parts of its header are those that were given
-  pub accepts : apartOf kind (fileOf k h bodies) (length other) ≡ taken accepted bodies
+  pub accepts : apartOf kind (fileOf k h bodies) (length other) ≡ storing accepted bodies
   pub bodies-back : apartAfter kind (fileOf k h bodies) other ≡ atFront bodies other
   pub head-back : headTaken k (fileOf k h bodies) ≡ h

@@ -1,19 +1,20 @@
 -- What taking a file apart answers, and what the room holds after it.
 use Prim.Native.Nat.{ℕ}
 use mathlib.Core.Bool.{cond}
-use mathlib.Core.List.{List, [], _++_}
+use mathlib.Core.List.{List, []}
 use lib.Dec.{leb, ltb}
-use lib.ListN.{length, drop}
+use lib.ListN.{length}
 use Rattle.kinds.specs.declared.of_files.Kind.{Kind}
 use Rattle.kinds.specs.declared.of_files.Named.{Named}
 use Rattle.kinds.specs.declared.of_files.Named.the-variants.{Is, Unknown}
 use Rattle.answers.specs.declared.told.Answer.{Answer}
-use Rattle.answers.specs.Answers.{accepted, refused, refuses, _then_}
+use Rattle.answers.specs.declared.told.Stored.{Stored}
+use Rattle.answers.specs.Answers.{accepted, refused, _then_}
+use Rattle.answers.specs.Storing.{unlessRefused, storing, atFront}
 use Rattle.records.specs.Records.{dataOf}
 use Rattle.reader.specs.Reading.{readAs}
 use Rattle.kinds.specs.Kinds.{requestOf}
 use Rattle.writer.specs.Apart.{bodyAt, bodiesIn}
-use Rattle.apart.specs.declared.storing.Taken.{Taken}
 
 -- the body of data record i + 1; nothing where there is no such record
 unfoldable pub bodyOf : Kind → List ℕ → ℕ → List ℕ
@@ -29,7 +30,7 @@ apartAs k s room = readAs k s then roomTells (bodiesIn k s) room
 
 -- what is stored: all bodies, one behind the other; nothing when refused
 unfoldable pub storedAs : Kind → List ℕ → ℕ → List ℕ
-storedAs k s room = cond (refuses (apartAs k s room)) [] (bodiesIn k s)
+storedAs k s room = unlessRefused (apartAs k s room) (bodiesIn k s)
 
 -- kinds other than EB13 and EB21 are 1
 abbrev pub apartNamed : Named → List ℕ → ℕ → Answer
@@ -46,16 +47,8 @@ apartTold kind s room = apartNamed (requestOf kind) s room
 unfoldable pub apartStored : ℕ → List ℕ → ℕ → List ℕ
 apartStored kind s room = storedNamed (requestOf kind) s room
 
--- an answer with the length of what is stored
-abbrev pub taken : Answer → List ℕ → Taken
-taken answer stored = record { answer = answer; size = length stored }
-
--- room with something stored at its front
-abbrev pub atFront : List ℕ → List ℕ → List ℕ
-atFront stored room = stored ++ drop (length stored) room
-
-unfoldable pub apartOf : ℕ → List ℕ → ℕ → Taken
-apartOf kind s room = taken (apartTold kind s room) (apartStored kind s room)
+unfoldable pub apartOf : ℕ → List ℕ → ℕ → Stored
+apartOf kind s room = storing (apartTold kind s room) (apartStored kind s room)
 
 unfoldable pub apartAfter : ℕ → List ℕ → List ℕ → List ℕ
 apartAfter kind s room = atFront (apartStored kind s (length room)) room

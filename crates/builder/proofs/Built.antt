@@ -9,6 +9,7 @@ use native.Mathlib.Omega.{arith}
 use lib.ListN.{length, take, drop, length-append, length-drop}
 use lib.Seq.{take-at, drop-append-add, drop-drop, length-take-le}
 use Rattle.laws.specs.Joined.{joined}
+use Rattle.laws.proofs.Pieces.{part-within, part-behind}
 use Rattle.laws.proofs.Joins.{joined-length, joined-part, size-below}
 use Rattle.laws.proofs.Parts.{part-take}
 use Rattle.laws.specs.Sum.{sum}
@@ -25,7 +26,7 @@ use Rattle.laws.specs.Stored.{stored}
 use Rattle.builder.specs.Files.{frontOf, fileOf}
 use Rattle.builder.proofs.Lengths.{header-length, data-length, trailer-length}
 use Rattle.laws.proofs.Tabs.{tab-same}
-use Rattle.builder.proofs.Stores.{Filled, data-start, data-next, store-next, part-front, part-behind}
+use Rattle.builder.proofs.Stores.{Filled, data-start, data-next, store-next}
 
 worth-same : (k : Kind) (s : List ℕ) (g : ℕ → List ℕ) (q : Quantity) (i : ℕ) → recordOf k s (i + 1) ≡ g i → worthAt k s q i ≡ worth q (g i)
 unfolding worthAt
@@ -121,8 +122,8 @@ module _ (k : Kind) (h : Head) (bodies o : List ℕ) (n : ℕ) (count : n ≡ bo
   sofar-record i l =
       part-take ((i + 1) * w) w ((n + 2) * w) (frontOf k h bodies ++ drop ((n + 1) * w) o) (size-below (i + 1) (n + 2) w (omega arith)) (rw whole room) ∙
       (rw (append-assoc H (joined g (bodyCount k bodies)) (drop ((n + 1) * w) o), add-one, suc-mul, add-comm (i * w) w) refl ∙
-      (part-behind (i * w) w w H (joined g (bodyCount k bodies) ++ drop ((n + 1) * w) o) (header-length k h) ∙
-      (part-front (i * w) w (joined g (bodyCount k bodies)) (drop ((n + 1) * w) o) (rw (joined-length g w (data-length k H bodies) (bodyCount k bodies), ← count) (size-below i n w l)) ∙
+      (part-behind H (joined g (bodyCount k bodies) ++ drop ((n + 1) * w) o) w (i * w) w (header-length k h) ∙
+      (part-within (joined g (bodyCount k bodies)) (drop ((n + 1) * w) o) (i * w) w (rw (joined-length g w (data-length k H bodies) (bodyCount k bodies), ← count) (size-below i n w l)) ∙
       joined-part g w (data-length k H bodies) (bodyCount k bodies) i (rw (← count) l))))
 
   sofar-quantity : (q : Quantity) → quantityOf k sofar q ≡ builtQuantity k H bodies q

@@ -5,11 +5,9 @@ use mathlib.Core.List.{List, _++_, append-assoc, append-nil}
 use mathlib.Core.Path.{_≡_, sym, _∙_}
 use native.Mathlib.Nat.{one-mul, suc-mul, add-comm}
 use native.Mathlib.Numerals.{add-one}
-use native.Mathlib.Omega.{arith}
-use lib.ListN.{length, take, drop, length-append, length-drop, take-append-drop}
-use lib.Seq.{take-at, drop-append-add, drop-drop, length-take-le, drop-append-le, take-append-le}
+use lib.ListN.{length, take, drop, length-append, take-append-drop}
+use lib.Seq.{take-at, drop-append-add, drop-drop, length-take-le}
 use Rattle.laws.specs.Joined.{joined}
-use Rattle.laws.specs.Part.{part}
 use Rattle.laws.proofs.Joins.{joined-start, joined-more, joined-length}
 
 pub store-next :
@@ -37,12 +35,3 @@ module _ (w : ℕ) (g : ℕ → List ℕ) (each : (i : ℕ) → length (g i) ≡
   data-next i =
       store-next (take w o ++ joined g i) (g i) o ((i + 1) * w) (front-length i) ∙
       rw (append-assoc (take w o) (joined g i) (g i), ← joined-more g i, each i, ← suc-mul (i + 1) w, ← add-one (i + 1))
-
--- parts of two lists one after the other
-pub part-front : (a b : ℕ) (x y : List ℕ) → a + b ≤ length x → part a b (x ++ y) ≡ part a b x
-unfolding part
-part-front a b x y h = rw (drop-append-le a x y (omega arith), take-append-le b (drop a x) y (rw length-drop (omega arith)))
-
-pub part-behind : (a b w : ℕ) (x y : List ℕ) → length x ≡ w → part (w + a) b (x ++ y) ≡ part a b y
-unfolding part
-part-behind a b w x y e = rw (← e, drop-append-add)

@@ -1,3 +1,2 @@
--- Laws about the definitions of specs/.
-pub mod Face
+-- Laws about the contracts of the face.
 pub mod Alike

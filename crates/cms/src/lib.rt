@@ -3,6 +3,5 @@ pub mod pairs;
 pub mod post;
 pub mod read;
 pub mod taking;
-mod telling;
 pub mod walk;
 pub mod write;

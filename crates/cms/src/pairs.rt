@@ -3,10 +3,11 @@ ghost use mathlib.Core.Path.{_≡_};
 ghost use lib.ListN.{length};
 ghost use Rattle.pair.specs.Pairing.{pairTold, takenAfter, notTakenAfter};
 ghost use Rattle.outcomes.specs.Outcomes.{outcomeTold};
-ghost use Rattle.cms.specs.Face.{five, nine};
-use crate::telling;
+ghost use Rattle.telling.specs.Numbers.{five, nine};
 use outcomes::asking;
 use pair::pairing;
+use telling::answer::tell;
+use telling::outcome::tell_outcome;
 
 // Pairs a request with its result. Returns the refusal's number, 0 when accepted; a refusal leaves both lists as they were.
 #[no_mangle]
@@ -24,7 +25,7 @@ pub extern "C" fn cms_pair(
     ensures { λ _. ⌜ now (answer .exit) ≡ five (pairTold pair (now (request .entry)) (now (result .entry)) (length (now (taken .entry))) (length (now («not_taken» .entry)))) ⌝ }
 {
     let told = pairing::pair(pair as u64, request, result, taken, not_taken);
-    telling::tell(told, answer)
+    tell(told, answer)
 }
 
 // What became of one request, by its record number. Returns the refusal's number, 0 when accepted.
@@ -40,5 +41,5 @@ pub extern "C" fn cms_outcome(
     ensures { λ _. ⌜ now (answer .exit) ≡ nine (outcomeTold pair (now (request .entry)) (now (result .entry)) «record») ⌝ }
 {
     let told = asking::outcome(pair as u64, request, result, record);
-    telling::tell_outcome(told, answer)
+    tell_outcome(told, answer)
 }

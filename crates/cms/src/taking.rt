@@ -2,9 +2,9 @@
 ghost use mathlib.Core.Path.{_≡_};
 ghost use lib.ListN.{length};
 ghost use Rattle.apart.specs.Taking.{apartOf, apartAfter};
-ghost use Rattle.cms.specs.Face.{six};
-use crate::telling;
+ghost use Rattle.telling.specs.Numbers.{six};
 use apart::storing;
+use telling::answer::tell_stored;
 
 // Stores the bodies of a file of the kind one behind the other. Returns the refusal's number, 0 when accepted; a refusal
 // leaves the room for the bodies as it was.
@@ -14,6 +14,6 @@ pub extern "C" fn cms_apart(kind: u32, file: &[u8], bodies: &mut [u8], answer: &
     ensures { λ _. ⌜ now (bodies .exit) ≡ apartAfter kind (now (file .entry)) (now (bodies .entry)) ⌝ }
     ensures { λ _. ⌜ now (answer .exit) ≡ six (apartOf kind (now (file .entry)) (length (now (bodies .entry)))) ⌝ }
 {
-    let taken = storing::take_apart(kind as u64, file, bodies);
-    telling::tell_taken(taken, answer)
+    let stored = storing::take_apart(kind as u64, file, bodies);
+    tell_stored(stored, answer)
 }

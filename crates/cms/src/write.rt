@@ -3,8 +3,8 @@ ghost use mathlib.Core.Path.{_≡_};
 ghost use lib.ListN.{length};
 ghost use Rattle.builder.specs.Records.{headOf};
 ghost use Rattle.writer.specs.Writing.{writeOf, roomAfter};
-ghost use Rattle.cms.specs.Face.{five};
-use crate::telling;
+ghost use Rattle.telling.specs.Numbers.{five};
+use telling::answer::tell;
 use writer::writing;
 
 // Writes a file of the kind into the room. Returns the refusal's number, 0 when accepted; a refusal leaves the room as it was.
@@ -24,5 +24,5 @@ pub extern "C" fn cms_write(
     ensures { λ _. ⌜ now (answer .exit) ≡ five (writeOf kind (headOf (now (date .entry)) (now (code .entry)) (now (item6 .entry)) (now (item7 .entry))) (now (bodies .entry)) (length (now (room .entry)))) ⌝ }
 {
     let told = writing::write(kind as u64, date, code, item6, item7, bodies, room);
-    telling::tell(told, answer)
+    tell(told, answer)
 }

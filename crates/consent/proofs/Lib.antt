@@ -2,3 +2,7 @@
 pub mod Asked
 pub mod Marked
 pub mod Stages
+pub mod Agreed
+pub mod Told
+pub mod Exact
+pub mod First

@@ -2,21 +2,22 @@
 -- Assumes nothing.
 use Prim.Native.Nat.{ℕ, zero, suc, _+_, _-_, _*_, _≤_, _<_}
 use mathlib.Core.Bool.{Bool}
-use mathlib.Core.List.{List, [], _++_, append-assoc, append-nil}
+use mathlib.Core.List.{List, _++_, append-assoc, append-nil}
 use mathlib.Core.Path.{_≡_, refl, sym, _∙_, ap}
-use mathlib.Core.Logic.{_↔_, ⊎-elim}
-use native.Mathlib.Nat.{add-zero, le-add-right, le-trans, le-refl, le-antisymm, eq-or-lt-of-le, le-of-suc-le-suc, not-suc-le-zero}
+use mathlib.Core.Logic.{_↔_}
+use native.Mathlib.Nat.{add-zero, le-refl, le-antisymm}
 use native.Mathlib.Numerals.{add-one}
 use native.Mathlib.Omega.{arith}
 use borrow.Author.Tests.{lt-leb}
 use lib.ListN.{length, getD, take, drop, length-append, length-drop, take-append-drop}
-use lib.Seq.{take-all, take-at, drop-at, take-add, drop-drop, length-take-le}
+use lib.Seq.{take-all, take-at, drop-at, take-add}
 use Rattle.laws.specs.Joined.{joined}
 use Rattle.laws.specs.Part.{part}
 use Rattle.laws.specs.Sum.{sum}
 use Rattle.laws.proofs.Leasts.{least-none}
-use Rattle.laws.proofs.Sums.{sum-same}
-use Rattle.laws.proofs.Parts.{part-length, part-at, part-part}
+use Rattle.laws.proofs.Sums.{sum-same, sum-up}
+use Rattle.laws.proofs.Parts.{part-length, part-at, part-part, drop-part}
+use Rattle.laws.proofs.Joins.{joined-split}
 use Rattle.numbers.specs.Numbers.{valueOf}
 use Rattle.answers.specs.Answers.{accepted}
 use Rattle.evidence.specs.Blocks.{block, front, blocksFor, blocksIn, lastBlock, dataBlocks, blockAt, lengthAt, kindAt, nextOf, startOf, atEnd, recordsIn}
@@ -26,30 +27,6 @@ use Rattle.evidence.specs.Meets.{evidenceOf, blocksOf, blocksTo, Fits, C
 use Rattle.evidence.specs.Stages.{Good, Stages}
 use Rattle.evidence.proofs.Walks.{block-inside, blocks-enough, blocks-some, start-first, start-more, start-before, way-end, records-end}
 use Rattle.evidence.proofs.Stages.{read-good, stages-exact}
-
--- a part from some place in it on
-drop-part : (a c d : ℕ) (s : List ℕ) → a ≤ d → c + d ≤ length s → drop a (part c d s) ≡ part (c + a) (d - a) s
-unfolding part
-drop-part a c d s h g =
-    let e : d ≡ a + (d - a) = omega arith in
-    ap (λ (x : ℕ). drop a (take x (drop c s))) e ∙
-    rw (
-      take-add a (d - a) (drop c s),
-      drop-at (take a (drop c s)) (take (d - a) (drop a (drop c s))) a (length-take-le a (drop c s) (rw length-drop (omega arith))),
-      drop-drop a c s,
-    )
-
--- among n lists, list i stands behind those before it
-joined-split : (f : ℕ → List ℕ) (n i : ℕ) → i < n → (rest : List ℕ) × (joined f n ≡ joined f i ++ (f i ++ rest))
-unfolding joined
-joined-split f zero i h = absurd (not-suc-le-zero h)
-joined-split f (suc n) i h = ⊎-elim last (λ l. more (joined-split f n i l)) (eq-or-lt-of-le (le-of-suc-le-suc h))
-  where
-    last : i ≡ n → (rest : List ℕ) × (joined f n ++ f n ≡ joined f i ++ (f i ++ rest))
-    last e = ([], rw (e, append-nil))
-
-    more : ((rest : List ℕ) × (joined f n ≡ joined f i ++ (f i ++ rest))) → (rest : List ℕ) × (joined f n ++ f n ≡ joined f i ++ (f i ++ rest))
-    more p = (p .0 ++ f n, rw (p .1) (simp append-assoc))
 
 -- what a record that begins with block b and has k blocks says, in the file
 module _ (s : List ℕ) (b k : ℕ) (some : 0 < k) (fits : b * block + k * block ≤ length s) where
@@ -189,13 +166,6 @@ module _ (exempt : Bool) (s : List ℕ) (m : Stages exempt s) where
           entry-fits s (startOf s i) (blocksFor (lengthAt s (startOf s i))) (blocks-some (lengthAt s (startOf s i))) (entry-inside i h)
           exempt (entryOf s i) (blockAt s 0) (i + 1) refl refl refl (m .each i h .inside) .1 (m .each i h)
 
--- a number and those before it are no more than all
-sum-up : (f : ℕ → ℕ) (n i : ℕ) → i < n → sum f i + f i ≤ sum f n
-unfolding sum
-sum-up f zero i h = absurd (not-suc-le-zero h)
-sum-up f (suc n) i h =
-    ⊎-elim (λ e. rw e (le-refl (sum f n + f n))) (λ l. le-trans (sum-up f n i l) (le-add-right (sum f n) (f n))) (eq-or-lt-of-le (le-of-suc-le-suc h))
-
 module _ (exempt : Bool) (s header trailer : List ℕ) (n : ℕ) (entry : ℕ → List ℕ) (m : Composed exempt s header trailer n entry) where
   joined-long : (i : ℕ) → i ≤ n → length (joined entry i) ≡ blocksTo entry i * block
   unfolding joined sum
@@ -233,7 +203,7 @@ module _ (exempt : Bool) (s header trailer : List ℕ) (n : ℕ) (entry : ℕ �
       sym (ap (take block) rest ∙ take-all block trailer (omega (arith, m .trailer-long)))
 
   -- record i stands behind the header and the records before it
-  stands : (i : ℕ) → i < n → part ((1 + blocksTo entry i) * block) (blocksOf (entry i) * block) s ≡ entry i
+  pub stands : (i : ℕ) → i < n → part ((1 + blocksTo entry i) * block) (blocksOf (entry i) * block) s ≡ entry i
   unfolding part
   stands i h =
       let p = joined-split entry n i h in
@@ -242,21 +212,21 @@ module _ (exempt : Bool) (s header trailer : List ℕ) (n : ℕ) (entry : ℕ �
       let rest : drop b s ≡ entry i ++ (p .0 ++ trailer) = ap (drop b) all ∙ drop-at (header ++ joined entry i) (entry i ++ (p .0 ++ trailer)) b (behind i (omega arith)) in
       ap (take (blocksOf (entry i) * block)) rest ∙ take-at (entry i) (p .0 ++ trailer) (blocksOf (entry i) * block) (m .entries i h .whole)
 
-  room : (i : ℕ) → i < n → (1 + blocksTo entry i) * block + blocksOf (entry i) * block ≤ length s
+  pub room : (i : ℕ) → i < n → (1 + blocksTo entry i) * block + blocksOf (entry i) * block ≤ length s
   room i h = omega (arith, sum-up (λ j. blocksOf (entry j)) n i h, composed-bytes)
 
-  stands-says : (i : ℕ) → i < n → lengthAt s (1 + blocksTo entry i) ≡ evidenceOf (entry i)
+  pub stands-says : (i : ℕ) → i < n → lengthAt s (1 + blocksTo entry i) ≡ evidenceOf (entry i)
   stands-says i h =
       sym (entry-length s (1 + blocksTo entry i) (blocksOf (entry i)) (blocks-some (evidenceOf (entry i))) (room i h)) ∙ ap evidenceOf (stands i h)
 
   -- the walk meets each record where it stands
-  starts : (i : ℕ) → i ≤ n → startOf s i ≡ 1 + blocksTo entry i
+  pub starts : (i : ℕ) → i ≤ n → startOf s i ≡ 1 + blocksTo entry i
   unfolding startOf nextOf sum
   starts zero h = refl
   starts (suc i) h = rw (starts i (omega arith), stands-says i h) (omega arith)
 
   -- and ends behind the last
-  counted : recordsIn s ≡ n
+  pub counted : recordsIn s ≡ n
   unfolding atEnd
   counted =
       let end : startOf s n ≡ lastBlock s = omega (arith, starts n (le-refl n), composed-long) in

@@ -37,12 +37,12 @@ use Rattle.evidence.proofs.Stages.{tested, distinct-if, size-good, head
 use Rattle.evidence.proofs.Exact.{stages-meet}
 
 -- a refusal
-abbrev Bad : Answer → Type 0
+abbrev pub Bad : Answer → Type 0
 Bad a = a .number ≡ 0 → ⊥
 
 -- what is told is the first answer where that refuses, else the second
 module _ (P : Answer → Type 0) where
-  then-says : (a b : Answer) → (Bad a → P a) → (a .number ≡ 0 → P b) → P (a then b)
+  pub then-says : (a b : Answer) → (Bad a → P a) → (a .number ≡ 0 → P b) → P (a then b)
   then-says a b f g =
       ⊎-elim
       (λ t. rw (then-first a b (refuses-other a t)) (f (refuses-other a t)))
@@ -50,12 +50,12 @@ module _ (P : Answer → Type 0) where
       (either (refuses a))
 
   -- a test that fails
-  test-says : (t : Bool) (a : Answer) → (t ≡ false → P a) → Bad (cond t accepted a) → P (cond t accepted a)
+  pub test-says : (t : Bool) (a : Answer) → (t ≡ false → P a) → Bad (cond t accepted a) → P (cond t accepted a)
   test-says true a f ne = absurd (ne refl)
   test-says false a f ne = f refl
 
   -- the first row that does not hold
-  rows-say :
+  pub rows-say :
       (rows : List Row) (rec header : List ℕ) (n : ℕ) →
       ((j : ℕ) → Broken rows rec header n j → P (brokenAt n (getD rows j blank))) →
       Bad (judgeBy noOwn rows rec header n) → P (judgeBy noOwn rows rec header n)

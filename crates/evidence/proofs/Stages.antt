@@ -59,6 +59,23 @@ module _ (key : ℕ → List ℕ) where
           ⊎-elim (λ t. absurd (let z : j ≡ i = d j i (omega arith) h (sym (same-equal _ _ t)) in omega arith)) (λ f. f)
           (either (same (key i) (key j)))
 
+  -- what is told of n keys
+  module _ (n : ℕ) where
+    pub repeat-good : repeatTold n (least (repeatsIn key) n) .number ≡ 0 → Distinct key n
+    unfolding repeatTold
+    repeat-good e = ⊎-elim (λ q. distinct-if n (least-before (repeatsIn key) n q)) found (eq-or-lt-of-le (least-is (repeatsIn key) n .within))
+      where
+        found : least (repeatsIn key) n < n → Distinct key n
+        found h = absurd (let z : _≡_ {A = ℕ} 7 0 = rw (lt-ltb _ _ h) at e in omega arith)
+
+    pub good-repeat : Distinct key n → repeatTold n (least (repeatsIn key) n) ≡ accepted
+    unfolding repeatTold
+    good-repeat d = rw (least-none (repeatsIn key) n (repeat-none n d), le-ltb n n (omega arith))
+
+    pub bad-repeat : least (repeatsIn key) n < n → repeatTold n (least (repeatsIn key) n) ≡ refusedAt 7 (least (repeatsIn key) n + 1) 6 0x30303030
+    unfolding repeatTold
+    bad-repeat h = rw (lt-ltb _ _ h)
+
 module _ (s : List ℕ) where
   -- the size
   pub whole-fewest : isWhole s ≡ true → (length s ≡ blocksIn s * block) × (2 ≤ blocksIn s)
@@ -117,23 +134,16 @@ module _ (s : List ℕ) where
 
   -- the keys
   pub keys-good : keysTold s .number ≡ 0 → Distinct (keyOf s) (recordsIn s)
-  unfolding keysTold repeatTold
-  keys-good e = ⊎-elim (λ q. distinct-if (keyOf s) n (least-before (repeatsIn (keyOf s)) n q)) found (eq-or-lt-of-le (least-is (repeatsIn (keyOf s)) n .within))
-    where
-      n : ℕ
-      n = recordsIn s
-
-      found : least (repeatsIn (keyOf s)) n < n → Distinct (keyOf s) n
-      found h = absurd (let z : _≡_ {A = ℕ} 7 0 = rw (lt-ltb _ _ h) at e in omega arith)
+  unfolding keysTold
+  keys-good = repeat-good (keyOf s) (recordsIn s)
 
   pub good-keys : Distinct (keyOf s) (recordsIn s) → keysTold s ≡ accepted
-  unfolding keysTold repeatTold
-  good-keys d =
-      rw (least-none (repeatsIn (keyOf s)) (recordsIn s) (repeat-none (keyOf s) (recordsIn s) d), le-ltb (recordsIn s) (recordsIn s) (omega arith))
+  unfolding keysTold
+  good-keys = good-repeat (keyOf s) (recordsIn s)
 
   pub keys-bad : least (repeatsIn (keyOf s)) (recordsIn s) < recordsIn s → keysTold s ≡ refusedAt 7 (least (repeatsIn (keyOf s)) (recordsIn s) + 1) 6 0x30303030
-  unfolding keysTold repeatTold
-  keys-bad h = rw (lt-ltb _ _ h)
+  unfolding keysTold
+  keys-bad = bad-repeat (keyOf s) (recordsIn s)
 
 module _ (exempt : Bool) (s : List ℕ) where
   -- one record

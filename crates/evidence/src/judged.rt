@@ -8,15 +8,15 @@ ghost use Rattle.rows.specs.Laid.{laidOut};
 ghost use Rattle.kinds.specs.Kinds.{limit};
 ghost use Rattle.evidence_rows.specs.Tables.{dataRows};
 ghost use Rattle.evidence.specs.Blocks.{mostBlocks, blocksIn, lastBlock, nextOf, recordsIn};
-ghost use Rattle.evidence.specs.Judged.{lengthGood, headerTold, itemsTold, lengthTold, fillerTold, blockTold, recordsTold, goodTo, byteOf, trailerTold};
+ghost use Rattle.evidence.specs.Judged.{headerTold, itemsTold, lengthTold, fillerTold, blockTold, recordsTold, goodTo, byteOf, trailerTold};
 use crate::blocks;
 use crate::blocks::BLOCK;
 use crate::blocks::FRONT;
+use crate::lengths;
 use answers::told::Answer;
-use evidence_kinds::allowed;
 use evidence_rows::by_role;
+use evidence_rows::by_role::NO_OWN;
 use kinds::of_files::LIMIT;
-use kinds::of_files::Own;
 use layout::judging;
 use rows::by_record::MOST;
 use tables::row::Row;
@@ -27,23 +27,10 @@ const C0103: u64 = 0x3031_3033;
 
 const C0089: u64 = 0x3030_3839;
 
-// No rule of these rows asks for a kind's own name or least amount.
-const NO_OWN: Own = Own { name: 0, least: 0 };
-
 // What is told of the records, and how many are good before the first that is refused.
 pub(crate) struct Walked {
     pub(crate) answer: Answer,
     pub(crate) count: usize,
-}
-
-// So many bytes may be evidence of the kind.
-pub(crate) fn length_good(exempt: bool, kind: u8, length: usize) -> bool
-    ensures { λ r. ⌜ r ≡ lengthGood exempt kind length ⌝ }
-{
-    if exempt {
-        return length == 0;
-    }
-    0 < length && length as u64 <= allowed::most(kind)
 }
 
 pub(crate) fn header_tells(file: &[u8]) -> Answer
@@ -72,7 +59,7 @@ fn length_tells(exempt: bool, file: &[u8], b: usize, number: u64) -> Answer
     ensures { λ r. ⌜ r ≡ lengthTold exempt (now (file .entry)) b number ⌝ }
 {
     let length = blocks::length(file, b);
-    if length_good(exempt, parts::byte(file, b * BLOCK + 106), length) {
+    if lengths::length_good(exempt, parts::byte(file, b * BLOCK + 106), length) {
         if b + blocks::blocks_for(length) <= blocks::count(file) - 1 {
             return Answer::accepted();
         }

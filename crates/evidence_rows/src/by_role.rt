@@ -2,9 +2,13 @@
 ghost use mathlib.Core.Path.{_≡_};
 ghost use Rattle.rows.specs.Laid.{laidOut};
 ghost use Rattle.evidence_rows.specs.Tables.{headerRows, ordinaryRows, exemptRows, dataRows, trailerRows};
+use kinds::of_files::Own;
 use rows::by_record::MOST;
 use tables::row::Class;
 use tables::row::Row;
+
+// No rule of these rows asks for a kind's own name or least amount.
+pub const NO_OWN: Own = Own { name: 0, least: 0 };
 
 const BLANK: Row = Row(0, 0, 0, Class::Each(0, 0), 0);
 

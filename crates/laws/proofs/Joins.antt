@@ -8,9 +8,10 @@ use native.Mathlib.Nat.{suc-mul, zero-mul, le-refl, eq-or-lt-of-le, le-of-suc-le
 use native.Mathlib.Numerals.{add-one}
 use native.Mathlib.Omega.{arith}
 use lib.ListN.{length, take, drop, length-append, length-drop}
-use lib.Seq.{take-append-le, drop-append-le, drop-at, take-all, take-add}
+use lib.Seq.{take-append-le, drop-append-le, take-at, drop-at, take-all, take-add}
 use Rattle.laws.specs.Joined.{joined}
 use Rattle.laws.specs.Part.{part}
+use Rattle.laws.specs.Sum.{sum}
 
 -- a loop that joins: one more
 pub joined-start : (f : ℕ → List ℕ) → joined f 0 ≡ []
@@ -86,3 +87,30 @@ pub parts-joined : (size n : ℕ) (s : List ℕ) → n * size ≤ length s → j
 unfolding joined part
 parts-joined size zero s h = rw zero-mul
 parts-joined size (suc n) s h = rw (suc-mul, take-add, parts-joined size n s (omega (arith, suc-mul n size)))
+
+-- among n lists, list i stands behind those before it
+pub joined-split : (f : ℕ → List ℕ) (n i : ℕ) → i < n → (rest : List ℕ) × (joined f n ≡ joined f i ++ (f i ++ rest))
+unfolding joined
+joined-split f zero i h = absurd (not-suc-le-zero h)
+joined-split f (suc n) i h = ⊎-elim last (λ l. more (joined-split f n i l)) (eq-or-lt-of-le (le-of-suc-le-suc h))
+  where
+    last : i ≡ n → (rest : List ℕ) × (joined f n ++ f n ≡ joined f i ++ (f i ++ rest))
+    last e = ([], rw (e, append-nil))
+
+    more : ((rest : List ℕ) × (joined f n ≡ joined f i ++ (f i ++ rest))) → (rest : List ℕ) × (joined f n ++ f n ≡ joined f i ++ (f i ++ rest))
+    more p = (p .0 ++ f n, rw (p .1) (simp append-assoc))
+
+-- how long lists of any lengths are together
+pub joined-long : (f : ℕ → List ℕ) (n : ℕ) → length (joined f n) ≡ sum (λ i. length (f i)) n
+unfolding joined sum
+joined-long f zero = refl
+joined-long f (suc n) = length-append (joined f n) (f n) ∙ rw (joined-long f n)
+
+-- and list i among them
+pub joined-piece : (f : ℕ → List ℕ) (n i : ℕ) → i < n → part (sum (λ j. length (f j)) i) (length (f i)) (joined f n) ≡ f i
+unfolding part
+joined-piece f n i h =
+    let p = joined-split f n i h in
+    let at = sum (λ j. length (f j)) i in
+    let rest : drop at (joined f n) ≡ f i ++ p .0 = ap (drop at) (p .1) ∙ drop-at (joined f i) (f i ++ p .0) at (joined-long f i) in
+    ap (take (length (f i))) rest ∙ take-at (f i) (p .0) (length (f i)) refl

@@ -3,6 +3,7 @@ pub mod Bools
 pub mod Leasts
 pub mod Sums
 pub mod Parts
+pub mod Pieces
 pub mod Stores
 pub mod Every
 pub mod Joins

@@ -9,7 +9,7 @@ use native.Mathlib.Omega.{arith}
 use borrow.Author.Tests.{eqb-true, eq-eqb, ne-eqb, not-false}
 use lib.Dec.{eqb}
 use lib.ListN.{length, getD, take, drop, length-drop}
-use lib.Seq.{getD-take, getD-drop, ext-getD, length-take-le, take-all, take-add, drop-drop}
+use lib.Seq.{getD-take, getD-drop, ext-getD, length-take-le, take-all, take-add, drop-at, drop-drop}
 use Rattle.laws.specs.Least.{least, none}
 use Rattle.laws.specs.Part.{part, differ, same}
 use Rattle.laws.proofs.Bools.{and-left, and-right}
@@ -111,3 +111,15 @@ part-part a b c d s h g = ext-getD 0 (part a b (part c d s)) (part (c + a) b s) 
 pub part-join : (a b c : ℕ) (x y : List ℕ) → part a b x ≡ part a b y → part (a + b) c x ≡ part (a + b) c y → part a (b + c) x ≡ part a (b + c) y
 unfolding part
 part-join a b c x y e f = rw (take-add b c (drop a x), take-add b c (drop a y), drop-drop b a x, drop-drop b a y, e, f)
+
+-- a part from some place in it on
+pub drop-part : (a c d : ℕ) (s : List ℕ) → a ≤ d → c + d ≤ length s → drop a (part c d s) ≡ part (c + a) (d - a) s
+unfolding part
+drop-part a c d s h g =
+    let e : d ≡ a + (d - a) = omega arith in
+    ap (λ (x : ℕ). drop a (take x (drop c s))) e ∙
+    rw (
+      take-add a (d - a) (drop c s),
+      drop-at (take a (drop c s)) (take (d - a) (drop a (drop c s))) a (length-take-le a (drop c s) (rw length-drop (omega arith))),
+      drop-drop a c s,
+    )

@@ -4,7 +4,7 @@ use Prim.Native.Nat.{ℕ, zero, suc, _+_, _*_, _≤_, _<_, zero-le}
 use mathlib.Core.Bool.{true, false, cond}
 use mathlib.Core.Logic.{⊎-elim}
 use mathlib.Core.Path.{_≡_, refl, sym, _∙_, ap}
-use native.Mathlib.Nat.{suc-mul, zero-add, le-refl, eq-or-lt-of-le, le-of-suc-le-suc, not-suc-le-zero}
+use native.Mathlib.Nat.{suc-mul, zero-add, le-refl, le-trans, le-add-right, eq-or-lt-of-le, le-of-suc-le-suc, not-suc-le-zero}
 use native.Mathlib.Numerals.{add-one}
 use native.Mathlib.Omega.{arith}
 use borrow.Author.Tests.{lt-ltb, le-ltb, ltb-true, ltb-false, eq-eqb, ne-eqb, eqb-true, eqb-false}
@@ -105,3 +105,10 @@ module _ (u f g : ℕ → ℕ) (n m : ℕ)
     pub sum-along : sum (λ i. cond (ltb (g i) m) (u (g i)) 0) n ≡ sum u m
     unfolding below
     sum-along = along m (le-refl m)
+
+-- a number and those before it are no more than all
+pub sum-up : (f : ℕ → ℕ) (n i : ℕ) → i < n → sum f i + f i ≤ sum f n
+unfolding sum
+sum-up f zero i h = absurd (not-suc-le-zero h)
+sum-up f (suc n) i h =
+    ⊎-elim (λ e. rw e (le-refl (sum f n + f n))) (λ l. le-trans (sum-up f n i l) (le-add-right (sum f n) (f n))) (eq-or-lt-of-le (le-of-suc-le-suc h))

@@ -3,19 +3,20 @@
 use Prim.Native.Nat.{ℕ, zero, suc, _+_, _-_, _*_, _/_, _%_, _^_, _≤_, _<_}
 use mathlib.Core.Bool.{true, _&&_}
 use mathlib.Core.List.{List, [], _∷_, _++_}
-use mathlib.Core.Path.{_≡_, refl, _∙_, ap}
+use mathlib.Core.Path.{_≡_, refl, sym, _∙_, ap}
 use mathlib.Core.Logic.{⊎-elim}
 use native.Mathlib.Nat.{le-refl, le-of-eq, eq-or-lt-of-le, le-of-suc-le-suc, not-suc-le-zero, lt-of-lt-of-le, pow-le-pow-right, pow-suc, div-lt-iff-lt-mul}
 use native.Mathlib.Numerals.{add-one}
 use native.Mathlib.Omega.{arith}
-use borrow.Author.Tests.{eqb-true}
+use borrow.Author.Tests.{eqb-true, eq-eqb, ne-eqb, ltb-true, ltb-false, le-leb}
 use lib.Arith.{digits-lt, digits-div, digits-mod}
-use lib.Dec.{eqb}
+use lib.Dec.{leb, eqb, ltb}
 use lib.ListN.{length, getD, take, length-append, List·getD-append}
 use lib.Seq.{take-suc, take-length, getD-at}
-use Rattle.laws.proofs.Bools.{and-left, either}
+use Rattle.laws.proofs.Bools.{and-left, and-right, either}
+use Rattle.laws.proofs.Parts.{part-length}
 use Rattle.text.specs.Characters.{within, digits, zeros}
-use Rattle.numbers.specs.Numbers.{digitOf, valueTo, valueOf, digitsOf}
+use Rattle.numbers.specs.Numbers.{digitOf, valueTo, valueOf, digitsOf, says}
 use Rattle.numbers.specs.Dates.{hasDay, isDate}
 use Rattle.laws.specs.Part.{part}
 use Rattle.text.proofs.Classes.{within-low, within-high, within-if, each-at, each-if}
@@ -136,3 +137,23 @@ zeros-if s t e = each-if 0x30 0x30 s place
         let is = each-at 0x30 0x39 s t k h in
         within-if 0x30 0x30 (getD s k 0) (within-low 0x30 0x39 (getD s k 0) is)
         (omega (arith, digitOf-is (getD s k 0) is, value-zero s (length s) e k h))
+
+-- w digits of a number say it exactly when it has no more
+pub says-within : (w n : ℕ) → w ≤ 19 → says (digitsOf w n) n ≡ ltb n (10 ^ w)
+unfolding says
+says-within w n h =
+    rw (digits-length w n, le-leb w 19 h, digits-are w n)
+    (⊎-elim
+    (λ t. rw (value-digits w n (ltb-true n (10 ^ w) t)) (eq-eqb n n refl ∙ sym t))
+    (λ f. ne-eqb (valueOf (digitsOf w n)) n (λ e. absurd (omega (arith, e, value-size (digitsOf w n) w (digits-length w n), ltb-false n (10 ^ w) f))) ∙ sym f)
+    (either (ltb n (10 ^ w))))
+
+-- the digits of a number
+pub says-is : (n w : ℕ) (x : List ℕ) → length x ≡ w → says x n ≡ true → x ≡ digitsOf w n
+unfolding says
+says-is n w x l t =
+    let d = and-right (leb (length x) 19) (digits x && eqb (valueOf x) n) t in
+    rw (← l, ← eqb-true (valueOf x) n (and-right (digits x) (eqb (valueOf x) n) d)) (sym (digits-value x (and-left (digits x) (eqb (valueOf x) n) d)))
+
+pub says-part : (n at w : ℕ) (s : List ℕ) → at + w ≤ length s → says (part at w s) n ≡ true → part at w s ≡ digitsOf w n
+says-part n at w s h t = says-is n w (part at w s) (part-length at w s h) t

@@ -1,14 +1,19 @@
 -- The laws of the character classes: what a class says of each byte, and back.
 -- Assumes nothing.
-use Prim.Native.Nat.{ℕ, _≤_, _<_}
+use Prim.Native.Nat.{ℕ, _+_, _≤_, _<_}
 use mathlib.Core.Bool.{true}
 use mathlib.Core.List.{List}
-use mathlib.Core.Path.{_≡_}
+use mathlib.Core.Path.{_≡_, sym, _∙_}
+use native.Mathlib.Nat.{le-antisymm}
+use native.Mathlib.Omega.{arith}
 use borrow.Author.Tests.{leb-true, le-leb, not-false, eqb-true, eq-eqb}
 use lib.Dec.{leb}
-use lib.ListN.{length, getD}
+use lib.ListN.{length, getD, replicate, length-replicate, getD-replicate}
+use lib.Seq.{ext-getD}
+use Rattle.laws.specs.Part.{part}
 use Rattle.laws.proofs.Bools.{and-left, and-right}
 use Rattle.laws.proofs.Leasts.{least-before, least-none}
+use Rattle.laws.proofs.Parts.{part-length}
 use Rattle.text.specs.declared.characters.Set.the-variants.{From}
 use Rattle.text.specs.Characters.{within, takes, stopsAt, front, each}
 
@@ -37,3 +42,13 @@ module _ (low high : ℕ) (s : List ℕ) where
   unfolding each front stopsAt takes
   each-if f =
       eq-eqb (front (From low high) s) (length s) (least-none (stopsAt (From low high) s) (length s) (λ k h. rw (f k h)))
+
+-- one byte all along
+pub only-is : (b w : ℕ) (x : List ℕ) → length x ≡ w → each b b x ≡ true → x ≡ replicate w b
+only-is b w x l t = ext-getD 0 x (replicate w b) (l ∙ sym (length-replicate w b)) (λ i h. is i h ∙ sym (getD-replicate w i b 0 (omega (arith, l))))
+  where
+    is : (i : ℕ) → i < length x → getD x i 0 ≡ b
+    is i h = let w = each-at b b x t i h in le-antisymm (within-high b b _ w) (within-low b b _ w)
+
+pub only-part : (b at w : ℕ) (s : List ℕ) → at + w ≤ length s → each b b (part at w s) ≡ true → part at w s ≡ replicate w b
+only-part b at w s h t = only-is b w (part at w s) (part-length at w s h) t

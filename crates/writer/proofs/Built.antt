@@ -40,7 +40,7 @@ use Rattle.builder.proofs.Built.{file-length}
 use Rattle.builder.proofs.Lengths.{trailer-length}
 use Rattle.builder.proofs.Rows.{totals-few}
 use Rattle.builder.proofs.Sizes.{body-size, key-behind, one-more}
-use Rattle.builder.proofs.Stores.{part-behind}
+use Rattle.laws.proofs.Pieces.{part-behind}
 use Rattle.writer.specs.Writing.{bodySpacing, headerTold, dataTold, trailerTold, sumTold, sumsTold, keysTold, builtTold}
 use Rattle.writer.proofs.Taken.{file-count, file-header, file-data}
 use Rattle.writer.proofs.Agree.{file-lengths}
@@ -76,7 +76,7 @@ module _ (k : Kind) (h : Head) (bodies : List ℕ) where
   unfolding recordAt fileOf part
   file-trailer =
       ap (λ (a : ℕ). part a w (frontOf k h bodies ++ T)) start ∙
-      (part-behind 0 w ((n + 1) * w) (frontOf k h bodies) T front ∙ take-all w T (le-of-eq (trailer-length k H sums)))
+      (part-behind (frontOf k h bodies) T ((n + 1) * w) 0 w front ∙ take-all w T (le-of-eq (trailer-length k H sums)))
     where
       start : (n + 1) * w ≡ (n + 1) * w + 0
       start = omega arith

@@ -15,7 +15,7 @@ use Rattle.records.specs.Records.{recordAt, recordOf, countOf}
 use Rattle.records.proofs.Places.{size-pos}
 use Rattle.laws.specs.Stored.{stored}
 use Rattle.builder.proofs.Sizes.{size-most}
-use Rattle.builder.proofs.Stores.{part-front, part-behind}
+use Rattle.laws.proofs.Pieces.{part-within, part-behind}
 
 -- there is room for three
 pub frame-count : (k : Kind) (f : List ℕ) → 450 ≤ length f → 3 ≤ countOf k f
@@ -33,8 +33,8 @@ pub stored-there :
 unfolding recordAt part
 stored-there k f rec m at e h long =
     rw (← e)
-    (part-front at w (take at f ++ rec) (drop (at + length rec) f) (rw (length-append (take at f) rec, length-take-le at f h) (le-of-eq (rw long))) ∙
-    (ap (λ (a : ℕ). part a w (take at f ++ rec)) start ∙ (part-behind 0 w at (take at f) rec (length-take-le at f h) ∙ take-all w rec (le-of-eq long))))
+    (part-within (take at f ++ rec) (drop (at + length rec) f) at w (rw (length-append (take at f) rec, length-take-le at f h) (le-of-eq (rw long))) ∙
+    (ap (λ (a : ℕ). part a w (take at f ++ rec)) start ∙ (part-behind (take at f) rec at 0 w (length-take-le at f h) ∙ take-all w rec (le-of-eq long))))
   where
     w : ℕ
     w = fixedOf k .size
@@ -48,5 +48,5 @@ pub stored-front :
 unfolding recordAt
 stored-front k f rec at b h =
     rw (zero-mul (fixedOf k .size), append-assoc (take at f) rec (drop (at + length rec) f))
-    (part-front 0 (fixedOf k .size) (take at f) (rec ++ drop (at + length rec) f) (rw (length-take-le at f h) (omega arith)) ∙
+    (part-within (take at f) (rec ++ drop (at + length rec) f) 0 (fixedOf k .size) (rw (length-take-le at f h) (omega arith)) ∙
     part-take 0 (fixedOf k .size) at f (omega arith) h)

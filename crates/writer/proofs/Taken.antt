@@ -37,7 +37,7 @@ use Rattle.writer.specs.Says.{fitting}
 use Rattle.builder.proofs.Bodies.{built-part}
 use Rattle.builder.proofs.Lengths.{header-length, data-length}
 use Rattle.laws.proofs.Tabs.{tab-at}
-use Rattle.builder.proofs.Stores.{part-front, part-behind}
+use Rattle.laws.proofs.Pieces.{part-within, part-behind}
 use Rattle.builder.proofs.Built.{file-length}
 use Rattle.builder.proofs.Sizes.{body-size}
 use Rattle.builder.proofs.Over.{starts, endsPast, starts-over}
@@ -156,8 +156,8 @@ module _ (k : Kind) (h : Head) (bodies : List ℕ) where
   unfolding recordAt fileOf frontOf
   file-data i l =
       rw (append-assoc H D T, add-one, suc-mul, add-comm (i * w) w)
-      (part-behind (i * w) w w H (D ++ T) (header-length k h) ∙
-      (part-front (i * w) w D T (rw data-long (size-below i n w l)) ∙
+      (part-behind H (D ++ T) w (i * w) w (header-length k h) ∙
+      (part-within D T (i * w) w (rw data-long (size-below i n w l)) ∙
       joined-part (dataBuilt k H bodies) w (data-length k H bodies) n i l))
 
 -- the body of a built record is the one that was given

@@ -4,19 +4,18 @@ use Prim.Native.Nat.{ℕ, zero, suc, _+_, _-_, _^_, _≤_, _<_}
 use mathlib.Core.Bool.{true}
 use mathlib.Core.List.{List}
 use mathlib.Core.Path.{_≡_, refl, sym, _∙_, ap}
-use mathlib.Core.Logic.{⊎-elim}
 use native.Mathlib.Omega.{arith}
-use borrow.Author.Tests.{eq-eqb, ne-eqb, lt-ltb, le-leb, ltb-true, ltb-false, leb-true}
+use borrow.Author.Tests.{lt-ltb, leb-true}
 use lib.Dec.{leb, ltb}
 use lib.ListN.{length, getD}
 use lib.Seq.{ext-getD}
 use Rattle.laws.specs.Least.{further, least, none}
 use Rattle.laws.specs.Part.{part}
-use Rattle.laws.proofs.Bools.{either, clash}
+use Rattle.laws.proofs.Bools.{clash}
 use Rattle.laws.proofs.Parts.{part-length, part-at}
 use Rattle.laws.proofs.Tabs.{tab-at}
-use Rattle.numbers.specs.Numbers.{valueOf, says, digitsOf}
-use Rattle.numbers.proofs.Values.{digits-length, digits-are, value-digits, value-size}
+use Rattle.numbers.specs.Numbers.{says, digitsOf}
+use Rattle.numbers.proofs.Values.{digits-length, says-within}
 use Rattle.kinds.specs.declared.of_files.Kind.{Kind}
 use Rattle.kinds.specs.declared.of_files.Form.{Form}
 use Rattle.kinds.specs.declared.of_files.Form.the-variants.{EnrolmentRequest, EnrolmentResult, DebitRequest, DebitResult}
@@ -42,16 +41,6 @@ use Rattle.kinds.proofs.Forms.{of-form}
 use Rattle.laws.proofs.Every.{every, every-at}
 use Rattle.writer.proofs.Built.{file-trailer, file-quantity}
 use Rattle.writer.proofs.Taken.{file-count}
-
--- w digits of a number say it exactly when it has no more
-pub says-within : (w n : ℕ) → w ≤ 19 → says (digitsOf w n) n ≡ ltb n (10 ^ w)
-unfolding says
-says-within w n h =
-    rw (digits-length w n, le-leb w 19 h, digits-are w n)
-    (⊎-elim
-    (λ t. rw (value-digits w n (ltb-true n (10 ^ w) t)) (eq-eqb n n refl ∙ sym t))
-    (λ f. ne-eqb (valueOf (digitsOf w n)) n (λ e. absurd (omega (arith, e, value-size (digitsOf w n) w (digits-length w n), ltb-false n (10 ^ w) f))) ∙ sym f)
-    (either (ltb n (10 ^ w))))
 
 -- where a row of the trailer is given its item's total, the total's digits stand there
 module _ (k : Kind) (H totals : List ℕ) (i : ℕ) where

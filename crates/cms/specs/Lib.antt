@@ -1,2 +1,0 @@
--- The face for C.
-pub mod Face

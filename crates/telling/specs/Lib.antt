@@ -1,0 +1,2 @@
+-- What is told, as numbers.
+pub mod Numbers

@@ -1,0 +1,34 @@
+-- Answers as numbers: side, number, record, item, code; then what storing, an outcome, a step or a part says.
+use Prim.Native.Nat.{ℕ}
+use mathlib.Core.List.{List, [], _∷_, _++_}
+use Rattle.answers.specs.declared.told.Answer.{Answer}
+use Rattle.answers.specs.declared.told.Stored.{Stored}
+use Rattle.outcomes.specs.declared.cases.Told.{Told}
+use Rattle.outcomes.specs.Outcomes.{fourOf}
+use Rattle.walker.specs.declared.walking.Walked.{Walked}
+use Rattle.walker.specs.Walks.{threeOf}
+use Rattle.evidence.specs.declared.lying.Lies.{Lies}
+use Rattle.evidence.specs.declared.lying.Shown.{Shown}
+use Rattle.evidence.specs.Lying.{caseOf, firstOf, sizeOf}
+
+abbrev pub five : Answer → List ℕ
+five a = a .side ∷ a .number ∷ a .rec ∷ a .item ∷ a .code ∷ []
+
+-- how many bytes were stored follows
+abbrev pub six : Stored → List ℕ
+six s = five (s .answer) ++ (s .size ∷ [])
+
+-- an outcome's case, taken, not taken and code follow
+abbrev pub nine : Told → List ℕ
+nine t = five (t .answer) ++ fourOf (t .outcome)
+
+-- a step's case, first byte and length follow
+abbrev pub eight : Walked → List ℕ
+eight w = five (w .answer) ++ threeOf (w .step)
+
+-- a part's case, first byte and length follow
+abbrev pub threeFor : Lies → List ℕ
+threeFor l = caseOf l ∷ firstOf l ∷ sizeOf l ∷ []
+
+abbrev pub eightFor : Shown → List ℕ
+eightFor s = five (s .answer) ++ threeFor (s .lies)
