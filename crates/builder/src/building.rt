@@ -60,8 +60,8 @@ fn header_byte(
     requires { ⌜ j < 1000 ⌝ }
     ensures { λ r. ⌜ r ≡ headerByte kind (headOf (now (date .entry)) (now (code .entry)) (now (item6 .entry)) (now (item7 .entry))) j ⌝ }
 {
-    let d = past(row.1, j);
-    let given = given_byte(date, code, item6, item7, row.0, d);
+    let d = past(row.1 as usize, j);
+    let given = given_byte(date, code, item6, item7, row.0 as u64, d);
     let letter = base_ten::letter(kind.own.name, d);
     let class = row.3;
     bytes::fill(class, given, letter, 0, 0)
@@ -136,7 +136,8 @@ fn trailer_byte(row: Row, kind: Kind, header: &[u8], sums: [u64; 5], j: usize) -
     if bytes::fixed(class) {
         return bytes::fill(class, 0, 0, 0, theirs);
     }
-    let digit = base_ten::digit_at(total_for(kind, sums, row.0), row.2, past(row.1, j));
+    let total = total_for(kind, sums, row.0 as u64);
+    let digit = base_ten::digit_at(total, row.2 as usize, past(row.1 as usize, j));
     bytes::fill(class, digit, 0, 0, theirs)
 }
 
@@ -150,7 +151,7 @@ fn fill_header(kind: Kind, date: &[u8], code: &[u8], item6: &[u8], item7: &[u8],
     let mut j = 0;
     while j < rec.len() {
         let row = rows[i];
-        if j < row.1 + row.2 {
+        if j < row.1 as usize + row.2 as usize {
             rec[j] = header_byte(row, kind, date, code, item6, item7, j);
             j += 1;
         } else {
@@ -169,7 +170,7 @@ fn fill_trailer(kind: Kind, header: &[u8], sums: [u64; 5], rec: &mut [u8])
     let mut j = 0;
     while j < rec.len() {
         let row = rows[i];
-        if j < row.1 + row.2 {
+        if j < row.1 as usize + row.2 as usize {
             rec[j] = trailer_byte(row, kind, header, sums, j);
             j += 1;
         } else {

@@ -20,21 +20,21 @@ const SPACES: Class = Class::Each(b' ', b' ');
 
 const DIGITS: Class = Class::Each(b'0', b'9');
 
-const C0000: u64 = 0x3030_3030;
+const C0000: u32 = 0x3030_3030;
 
-const C0081: u64 = 0x3030_3831;
+const C0081: u32 = 0x3030_3831;
 
-const C0088: u64 = 0x3030_3838;
+const C0088: u32 = 0x3030_3838;
 
-const C0089: u64 = 0x3030_3839;
+const C0089: u32 = 0x3030_3839;
 
-const C0098: u64 = 0x3030_3938;
+const C0098: u32 = 0x3030_3938;
 
-const C0101: u64 = 0x3031_3031;
+const C0101: u32 = 0x3031_3031;
 
-const C0102: u64 = 0x3031_3032;
+const C0102: u32 = 0x3031_3032;
 
-const C9998: u64 = 0x3939_3938;
+const C9998: u32 = 0x3939_3938;
 
 const HEADER: [Row; MOST] = [
     Row(1, 0, 1, Class::Each(b'A', b'A'), C0081),

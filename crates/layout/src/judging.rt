@@ -18,10 +18,12 @@ use tables::row::Row;
 fn broken_at(number: u64, row: Row) -> Answer
     ensures { λ r. ⌜ r ≡ brokenAt number row ⌝ }
 {
-    if row.4 == Answer::UNUSED {
-        return Answer::refused_at(5, number, row.0, row.4);
+    let item = row.0 as u64;
+    let code = row.4 as u64;
+    if code == Answer::UNUSED {
+        return Answer::refused_at(5, number, item, code);
     }
-    Answer::refused_at(4, number, row.0, row.4)
+    Answer::refused_at(4, number, item, code)
 }
 
 // The first of these rows that the record breaks, as refusal 4 or 5; or accepted. `number` is the record's number in its file.

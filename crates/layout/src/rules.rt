@@ -77,7 +77,9 @@ pub(crate) fn holds(own: Own, row: Row, rec: &[u8], header: &[u8], number: u64) 
     requires { ⌜ 55 ≤ length (now header) ⌝ }
     ensures { λ r. ⌜ r ≡ holds own (now (rec .entry)) (now (header .entry)) number row ⌝ }
 {
-    let item = parts::part(rec, row.1, row.2);
+    let start = row.1 as usize;
+    let size = row.2 as usize;
+    let item = parts::part(rec, start, size);
     let class = row.3;
     match class {
         Class::Each(low, high) => characters::each(low, high, item),
@@ -89,7 +91,7 @@ pub(crate) fn holds(own: Own, row: Row, rec: &[u8], header: &[u8], number: u64) 
         Class::Date => dates::date(item),
         Class::NameDate => parts::same(parts::rest(item, 2), parts::part(rec, 23, 4)),
         Class::Serial => base_ten::says(item, number),
-        Class::AsHeader => parts::same(item, parts::part(header, row.1, row.2)),
+        Class::AsHeader => parts::same(item, parts::part(header, start, size)),
         Class::NotLater => dates::not_later(item, parts::part(header, 27, 6)),
         Class::Application => application(item),
         Class::NotZero => !characters::each(b'0', b'0', item),
@@ -97,7 +99,7 @@ pub(crate) fn holds(own: Own, row: Row, rec: &[u8], header: &[u8], number: u64) 
         Class::FailedOrPart => failed(item) || partly(item),
         Class::Least => enough(own.least, item, rec),
         Class::LongDate => dates::long_date(item),
-        Class::HeaderFrom(start) => parts::begins(item, parts::rest(header, start as usize)),
+        Class::HeaderFrom(from) => parts::begins(item, parts::rest(header, from as usize)),
         Class::Extension => allowed::extension(parts::byte(rec, 106), item),
     }
 }

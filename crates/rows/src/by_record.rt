@@ -33,31 +33,31 @@ const FREE: Class = Class::Each(0x20, 0x7E);
 
 const PASSBOOK: Class = Class::Each(0x20, 0xFF);
 
-const C0000: u64 = 0x3030_3030;
+const C0000: u32 = 0x3030_3030;
 
-const C0011: u64 = 0x3030_3131;
+const C0011: u32 = 0x3030_3131;
 
-const C0061: u64 = 0x3030_3631;
+const C0061: u32 = 0x3030_3631;
 
-const C0068: u64 = 0x3030_3638;
+const C0068: u32 = 0x3030_3638;
 
-const C0075: u64 = 0x3030_3735;
+const C0075: u32 = 0x3030_3735;
 
-const C0081: u64 = 0x3030_3831;
+const C0081: u32 = 0x3030_3831;
 
-const C0088: u64 = 0x3030_3838;
+const C0088: u32 = 0x3030_3838;
 
-const C0089: u64 = 0x3030_3839;
+const C0089: u32 = 0x3030_3839;
 
-const C0090: u64 = 0x3030_3930;
+const C0090: u32 = 0x3030_3930;
 
-const C0098: u64 = 0x3030_3938;
+const C0098: u32 = 0x3030_3938;
 
-const C9998: u64 = 0x3939_3938;
+const C9998: u32 = 0x3939_3938;
 
-const CA011: u64 = 0x4130_3131;
+const CA011: u32 = 0x4130_3131;
 
-const CA012: u64 = 0x4130_3132;
+const CA012: u32 = 0x4130_3132;
 
 const ENROLMENT_HEADER: [Row; MOST] = [
     Row(1, 0, 1, MARK_H, C0081),

@@ -43,4 +43,4 @@ pub enum Class {
 }
 
 // Item, start, length, class, code.
-pub struct Row(pub u64, pub usize, pub usize, pub Class, pub u64);
+pub struct Row(pub u8, pub u8, pub u16, pub Class, pub u32);

@@ -1,8 +1,8 @@
 // The character classes, all from one loop: how many bytes in front a set takes.
 ghost use mathlib.Core.Path.{_≡_};
 ghost use Prim.Native.Nat.{_≤_};
-ghost use lib.ListN.{length};
-ghost use Rattle.text.specs.Characters.{within, takes, front, each, codeText, filled};
+ghost use lib.ListN.{length, drop};
+ghost use Rattle.text.specs.Characters.{within, takes, front, each, spaces, codeText, filled};
 use crate::parts;
 
 // The bytes from a low one to a high one; or digits and capitals.
@@ -49,19 +49,27 @@ pub fn each(low: u8, high: u8, s: &[u8]) -> bool
     front(Set::From(low, high), s) == s.len()
 }
 
+// Only spaces from place n on.
+fn spaces_from(s: &[u8], n: usize) -> bool
+    ensures { λ r. ⌜ r ≡ spaces (drop n (now (s .entry))) ⌝ }
+{
+    each(b' ', b' ', parts::rest(s, n))
+}
+
 // Digits and capitals, then only spaces.
 pub fn code_text(s: &[u8]) -> bool
     ensures { λ r. ⌜ r ≡ codeText (now (s .entry)) ⌝ }
 {
-    each(b' ', b' ', parts::rest(s, front(Set::Code, s)))
+    spaces_from(s, front(Set::Code, s))
 }
 
 // Code text with at least one character before the spaces.
 pub fn filled(s: &[u8]) -> bool
     ensures { λ r. ⌜ r ≡ filled (now (s .entry)) ⌝ }
 {
-    if front(Set::Code, s) == 0 {
+    let n = front(Set::Code, s);
+    if n == 0 {
         return false;
     }
-    code_text(s)
+    spaces_from(s, n)
 }

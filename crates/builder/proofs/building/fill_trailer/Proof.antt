@@ -45,18 +45,24 @@ array-copy-out-row c =
     let h : l .j < fixedOf (a .kind) .size = omega (arith, c .loop-test .taken, l .inv .1, c .before .before .before .before .before .pre) in
     walk-inside (a .kind) Trailer (t .result) (t .ensures) (l .i) (l .j) h (l .inv .3)
 
+cast-if1 : tie.Need-cast-if1 Inv-loop μ-loop
+cast-if1 c = search needs
+
+cast-if1-2 : tie.Need-cast-if1-2 Inv-loop μ-loop
+cast-if1-2 c = search needs
+
 add-if1 : tie.Need-add-if1 Inv-loop μ-loop
 add-if1 c =
-    let a = c .before .before .before .before .before .before .before .args in
-    let t = c .before .before .before .before .rows-of in
-    omega (arith, laid-small (a .kind) Trailer (t .result) (t .ensures) (c .before .before .before .loop .i))
+    let a = c .before .before .before .before .before .before .before .before .args in
+    let t = c .before .before .before .before .before .rows-of in
+    omega (arith, laid-small (a .kind) Trailer (t .result) (t .ensures) (c .before .before .before .before .loop .i))
 
 trailer-byte-requires : tie.Need-trailer-byte-requires Inv-loop μ-loop
 trailer-byte-requires c κs =
-    let a = c .before .before .before .before .before .before .before .before .args in
-    let t = c .before .before .before .before .before .rows-of in
-    let l = c .before .before .before .before .loop in
-    let h : l .j < fixedOf (a .kind) .size = omega (arith, c .before .before .before .loop-test .taken, l .inv .1, c .before .before .before .before .before .before .before .before .pre) in
+    let a = c .before .before .before .before .before .before .before .before .before .args in
+    let t = c .before .before .before .before .before .before .rows-of in
+    let l = c .before .before .before .before .before .loop in
+    let h : l .j < fixedOf (a .kind) .size = omega (arith, c .before .before .before .before .loop-test .taken, l .inv .1, c .before .before .before .before .before .before .before .before .before .pre) in
     walk-row (a .kind) Trailer (t .result) (t .ensures) (l .i) (l .j) h (l .inv .3) (c .if1 .taken)
 
 slice-write-rec : tie.Need-slice-write-rec Inv-loop μ-loop
@@ -67,35 +73,35 @@ add-j c = search needs
 
 loop-less : tie.Need-loop-less Inv-loop μ-loop
 loop-less c =
-    let l = c .before .before .before .before .before .loop in
-    omega (arith, c .before .before .before .before .loop-test .taken, l .inv .1)
+    let l = c .before .before .before .before .before .before .loop in
+    omega (arith, c .before .before .before .before .before .loop-test .taken, l .inv .1)
 
 loop-again : tie.Need-loop-again Inv-loop μ-loop
 loop-again c =
-    let l = c .before .before .before .before .before .loop in
-    let t = c .before .before .before .before .before .before .rows-of in
-    (search needs, simp length-set (l .inv .1), tab-more _ (l .rec) (l .j) _ (c .before .before .before .before .loop-test .taken) (l .inv .2) (c .trailer-byte .ensures), ended-place (t .result) (l .i) (l .j) (l .inv .3))
+    let l = c .before .before .before .before .before .before .loop in
+    let t = c .before .before .before .before .before .before .before .rows-of in
+    (search needs, simp length-set (l .inv .1), tab-more _ (l .rec) (l .j) _ (c .before .before .before .before .before .loop-test .taken) (l .inv .2) (c .trailer-byte .ensures), ended-place (t .result) (l .i) (l .j) (l .inv .3))
 
 add-i : tie.Need-add-i Inv-loop μ-loop
 add-i c =
-    let a = c .before .before .before .before .before .before .before .before .args in
-    let t = c .before .before .before .before .before .rows-of in
-    let l = c .before .before .before .before .loop in
-    let h : l .j < fixedOf (a .kind) .size = omega (arith, c .before .before .before .loop-test .taken, l .inv .1, c .before .before .before .before .before .before .before .before .pre) in
+    let a = c .before .before .before .before .before .before .before .before .before .args in
+    let t = c .before .before .before .before .before .before .rows-of in
+    let l = c .before .before .before .before .before .loop in
+    let h : l .j < fixedOf (a .kind) .size = omega (arith, c .before .before .before .before .loop-test .taken, l .inv .1, c .before .before .before .before .before .before .before .before .before .pre) in
     omega (arith, walk-inside (a .kind) Trailer (t .result) (t .ensures) (l .i) (l .j) h (l .inv .3))
 
 loop-less-2 : tie.Need-loop-less-2 Inv-loop μ-loop
 loop-less-2 c =
-    let a = c .before .before .before .before .before .before .before .before .args in
-    let t = c .before .before .before .before .before .rows-of in
-    let l = c .before .before .before .before .loop in
-    let h : l .j < fixedOf (a .kind) .size = omega (arith, c .before .before .before .loop-test .taken, l .inv .1, c .before .before .before .before .before .before .before .before .pre) in
+    let a = c .before .before .before .before .before .before .before .before .before .args in
+    let t = c .before .before .before .before .before .before .rows-of in
+    let l = c .before .before .before .before .before .loop in
+    let h : l .j < fixedOf (a .kind) .size = omega (arith, c .before .before .before .before .loop-test .taken, l .inv .1, c .before .before .before .before .before .before .before .before .before .pre) in
     omega (arith, walk-inside (a .kind) Trailer (t .result) (t .ensures) (l .i) (l .j) h (l .inv .3))
 
 loop-again-2 : tie.Need-loop-again-2 Inv-loop μ-loop
 loop-again-2 c =
-    let l = c .before .before .before .before .loop in
-    let t = c .before .before .before .before .before .rows-of in
+    let l = c .before .before .before .before .before .loop in
+    let t = c .before .before .before .before .before .before .rows-of in
     (l .inv .0, l .inv .1, l .inv .2, ended-row (t .result) (l .i) (l .j) (l .inv .3) (c .if1 .left))
 
 same-length : tie.Need-same-length Inv-loop μ-loop
@@ -118,6 +124,8 @@ fill-trailer-spec =
     loop-holds
     mul-row
     array-copy-out-row
+    cast-if1
+    cast-if1-2
     add-if1
     trailer-byte-requires
     slice-write-rec

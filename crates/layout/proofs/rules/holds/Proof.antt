@@ -5,6 +5,12 @@ use borrow.Author.Needs.{needs}
 use Rattle.layout.proofs.rules.holds.Statement.{statement}
 use Rattle.layout.proofs.rules.holds.Tie as tie
 
+cast-start : tie.Need-cast-start
+cast-start c = search needs
+
+cast-size : tie.Need-cast-size
+cast-size c = search needs
+
 part-requires : tie.Need-part-requires
 part-requires c κs = search needs
 
@@ -230,6 +236,8 @@ pub holds-spec : {M : Type 1} → statement M
 holds-spec =
     tie.close
     (tie.spec
+    cast-start
+    cast-size
     part-requires
     enum-known-class
     each-requires

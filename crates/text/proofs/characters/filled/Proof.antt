@@ -1,5 +1,5 @@
--- The run of digits and capitals is not empty.
-use Rattle.text.specs.Characters.{filled}
+-- The run of digits and capitals is not empty, and spaces follow it.
+use Rattle.text.specs.Characters.{codeText, filled}
 use borrow.Author.Needs.{needs}
 use borrow.Author.Tests.{lt-ltb}
 use native.Mathlib.Nat.{pos-of-ne-zero}
@@ -13,12 +13,12 @@ returns : tie.Need-returns
 unfolding filled
 returns c = rw (← c .before .front .ensures .0, c .if1 .taken)
 
-code-text-requires : tie.Need-code-text-requires
-code-text-requires c κs = search needs
+spaces-from-requires : tie.Need-spaces-from-requires
+spaces-from-requires c κs = search needs
 
 returns-2 : tie.Need-returns-2
-unfolding filled
-returns-2 c = rw (← c .before .before .front .ensures .0, lt-ltb 0 _ (pos-of-ne-zero (c .before .if1 .left))) (c .code-text .ensures)
+unfolding filled codeText
+returns-2 c = rw (← c .before .before .front .ensures .0, lt-ltb 0 _ (pos-of-ne-zero (c .before .if1 .left))) (c .spaces-from .ensures)
 
 pub filled-spec : {M : Type 1} → statement M
-filled-spec = tie.close (tie.spec front-requires returns code-text-requires returns-2)
+filled-spec = tie.close (tie.spec front-requires returns spaces-from-requires returns-2)
