@@ -6,9 +6,13 @@
  * A slice is a pointer and its length; nothing is read or written outside it, and nothing is kept after a call
  * returns. Memory that a call writes may overlap nothing else that is lent to it.
  *
+ * The profile of consent evidence (EI13) is 0 for an ordinary institution. Every other number is one that is partly
+ * exempt: its records have a kind of evidence, but a blank extension and no bytes.
+ *
  * Every function takes any number, any bytes and any length. All but cms_post return the refusal's number, 0 when
  * accepted, and store an answer that begins with five numbers:
- *   answer[0] side    0 one file or the pair itself; 1, 2 when a pair's request or result is refused by reading
+ *   answer[0] side    0 one file, or two as they meet; 1, 2 when the first or the second of two is refused by reading:
+ *                     a request or its result, enrolments or their evidence
  *   answer[1] number  what was returned
  *   answer[2] record  header 0, data records 1 to n, trailer n + 1; 0 where there is no place
  *   answer[3] item    from 1; 0 where there is no place
@@ -16,10 +20,12 @@
  * A refusal leaves all other lent memory as it was.
  * No function needs more than 64 KB of stack.
  *
- * Numbers: 1 kind or pair unknown, 2 not whole records or fewer than two, 3 more than 430 data records, 4 an item
- * breaks its rule, 5 an item disagrees with the kind or header, 6 a count or sum is wrong, 7 the key of an earlier
- * record, 8 lent room is too short, 12 the headers of a pair differ, 13 a result without a request or with a copied
- * item that differs, 14 an impossible amount, 15 no such request. */
+ * Numbers: 1 kind or pair unknown, 2 not whole records (evidence: blocks) or fewer than two, or in writing a part of
+ * another length or cut short, 3 more than 430 data records (evidence: or more than 4,096 data blocks), 4 an item breaks
+ * its rule, 5 an item disagrees with the kind or header, 6 a count or sum is wrong, 7 the key of an earlier record, 8 lent
+ * room is too short, 12 the headers of two files differ, 13 a result without a request or with a copied item that
+ * differs, 14 an impossible amount, 15 no such request, 20 an enrolment without evidence, 21 evidence without an
+ * enrolment. */
 #ifndef CMS_H
 #define CMS_H
 
@@ -29,6 +35,9 @@
 #ifdef __cplusplus
 extern "C" {
 #endif
+
+/* The last change of this face. 1: the functions of consent evidence came, and no other function changed. */
+#define CMS_FACE 1
 
 #define CMS_EB13 UINT32_C(0x45423133)
 #define CMS_EB14 UINT32_C(0x45423134)
@@ -82,6 +91,34 @@ uint64_t cms_walk(uint32_t kind, const uint8_t *file, size_t file_length, uint64
  * are unchanged. Returns 0, with nothing changed, when the text is too short: no output is empty. */
 uint64_t cms_post(const uint8_t *request, size_t request_length, const uint8_t *result, size_t result_length,
                   uint8_t *text, size_t text_length);
+
+/* Reads a file of consent evidence, EI13: blocks of 1,024 bytes, of which the first is the header and the last the
+ * trailer, and between them data records of as many blocks as their evidence wants. */
+uint64_t cms_evidence_read(uint32_t profile, const uint8_t *file, size_t file_length, uint64_t answer[5]);
+
+/* Where the evidence of one record lies in the file, by its record number 1 to n. On a file that is not accepted it
+ * answers as cms_evidence_read, whatever the record. Each part lies inside the file, and no two share a byte. After the
+ * five:
+ *   answer[5] case    0 none, because refused; 1 a part; 2 no record of that number
+ *   answer[6] start   the evidence's first byte in the file; 0 unless the case is 1
+ *   answer[7] length  its length; 0 unless the case is 1, and in the partly exempt profile always */
+uint64_t cms_evidence_part(uint32_t profile, const uint8_t *file, size_t file_length, uint64_t record,
+                           uint64_t answer[8]);
+
+/* Writes a file of consent evidence into the room, from the date (8 bytes), the institution code (10) and the records:
+ * items 6 to 12 of a data record (74 bytes) and then its evidence, as long as item 12 says, record after record. On
+ * success the first bytes of the room are the file, and those past it are unchanged. In a file, counted from 0, the date
+ * stands at bytes 15 to 22, the code at 23 to 32, and items 6 to 12 in the 74 bytes before a part. After the five:
+ *   answer[5] length  of the file; 0 when refused */
+uint64_t cms_evidence_write(uint32_t profile, const uint8_t *date, size_t date_length, const uint8_t *code,
+                            size_t code_length, const uint8_t *records, size_t records_length, uint8_t *room,
+                            size_t room_length, uint64_t answer[6]);
+
+/* Compares enrolments (EB13, side 1) with the evidence for them (EI13, side 2): each enrolment of kind "1" has one record
+ * of evidence with its payer, bank, account and date, and each record of evidence has such an enrolment. The item of
+ * number 12 is one of EB13; the record of number 20 is one of EB13, that of 21 one of EI13. */
+uint64_t cms_evidence_compare(uint32_t profile, const uint8_t *enrolments, size_t enrolments_length,
+                              const uint8_t *evidence, size_t evidence_length, uint64_t answer[5]);
 
 #ifdef __cplusplus
 }

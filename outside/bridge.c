@@ -18,13 +18,16 @@
 #include <sys/mman.h>
 #include <unistd.h>
 
-enum { READ, WRITE, PAIR, OUTCOME, WALK, POST, APART, TOUCH, DIG, PAINTED };
+enum { READ, WRITE, PAIR, OUTCOME, WALK, POST, APART, TOUCH, DIG, PAINTED,
+       EVIDENCE_READ, EVIDENCE_PART, EVIDENCE_WRITE, EVIDENCE_COMPARE };
 
 #define THERE UINT64_C(0x636d735f66616365)
 
 /* A multiple of the page sizes that are in use, also of an emulator's machine. */
 #define GUARD ((size_t)1 << 16)
-#define LONGEST ((size_t)1 << 20)
+/* Multiples of that. A file of evidence has up to 4,196,352 bytes, and one that is too long is lent, too. */
+#define LONGEST ((size_t)5 << 20)
+#define STACK ((size_t)1 << 20)
 #define WATCHED ((size_t)64)
 #define MOST 8
 
@@ -159,6 +162,7 @@ static uint64_t changed(void) {
 
 typedef uint64_t (*function)(void);
 
+/* The kind, pair or profile. */
 static uint32_t kind;
 static uint64_t given, also;
 
@@ -175,6 +179,12 @@ static uint64_t call_outcome(void) { return cms_outcome(kind, BYTES(0), BYTES(1)
 static uint64_t call_walk(void) { return cms_walk(kind, BYTES(0), given, NUMBERS(1)); }
 static uint64_t call_post(void) { return cms_post(BYTES(0), BYTES(1), BYTES(2)); }
 static uint64_t call_apart(void) { return cms_apart(kind, BYTES(0), BYTES(1), NUMBERS(2)); }
+static uint64_t call_evidence_read(void) { return cms_evidence_read(kind, BYTES(0), NUMBERS(1)); }
+static uint64_t call_evidence_part(void) { return cms_evidence_part(kind, BYTES(0), given, NUMBERS(1)); }
+static uint64_t call_evidence_write(void) {
+    return cms_evidence_write(kind, BYTES(0), BYTES(1), BYTES(2), BYTES(3), NUMBERS(4));
+}
+static uint64_t call_evidence_compare(void) { return cms_evidence_compare(kind, BYTES(0), BYTES(1), NUMBERS(2)); }
 
 /* Tries the watch: reads the byte at a place from a slice's start, and writes it when told a number. */
 static uint64_t call_touch(void) {
@@ -205,6 +215,13 @@ static function prepared(uint64_t which) {
     case WALK: slice(); given = number(); an_answer(8); return call_walk;
     case POST: slice(); slice(); to_write(slice()); return call_post;
     case APART: slice(); to_write(slice()); an_answer(6); return call_apart;
+    case EVIDENCE_READ: slice(); an_answer(5); return call_evidence_read;
+    case EVIDENCE_PART: slice(); given = number(); an_answer(8); return call_evidence_part;
+    case EVIDENCE_WRITE:
+        for (int i = 0; i < 3; i++) slice();
+        to_write(slice()); an_answer(6);
+        return call_evidence_write;
+    case EVIDENCE_COMPARE: slice(); slice(); an_answer(5); return call_evidence_compare;
     case TOUCH: slice(); given = number(); also = number(); return call_touch;
     case DIG: given = number(); return call_dig;
     default: fail("the bridge was asked for a function that it does not know\n"); return NULL;
@@ -215,10 +232,10 @@ static function prepared(uint64_t which) {
 
 static uint64_t *painted;
 #define PAINT UINT64_C(0x7061696e7465643a)
-#define WORDS (LONGEST / sizeof(uint64_t))
+#define WORDS (STACK / sizeof(uint64_t))
 
 static void make_stack(void) {
-    uint8_t *all = mmap(NULL, GUARD + LONGEST, PROT_READ | PROT_WRITE, MAP_PRIVATE | MAP_ANONYMOUS, -1, 0);
+    uint8_t *all = mmap(NULL, GUARD + STACK, PROT_READ | PROT_WRITE, MAP_PRIVATE | MAP_ANONYMOUS, -1, 0);
     if (all == MAP_FAILED || mprotect(all, GUARD, PROT_NONE)) fail("the bridge has no memory for a stack\n");
     painted = (uint64_t *)(void *)(all + GUARD);
 }

@@ -358,9 +358,12 @@ mod tests {
         Call::of(&TOUCH).slice(&slice).number(place as u64).number(with.into())
     }
 
+    /// A file of evidence with two blocks more than it may have.
+    const LONGEST: usize = 4_198_400;
+
     #[test]
     fn a_read_inside_is_no_breach() {
-        for length in [1, 27, 150, 4096, 70_000] {
+        for length in [1, 27, 150, 4096, 70_000, LONGEST] {
             for place in [0, length / 2, length - 1] {
                 let byte = b'a' + (place % 26) as u8;
                 assert_eq!(ask(&touch(length, place as i64, 0)), Ok(Said::new(byte.into())));
@@ -371,7 +374,7 @@ mod tests {
 
     #[test]
     fn a_write_into_or_before_what_is_only_read_is_seen() {
-        for length in [1, 27, 150, 4096, 70_000] {
+        for length in [1, 27, 150, 4096, 70_000, LONGEST] {
             for place in [0, length / 2, length - 1] {
                 let changed = Err(Breach::Changed("the slice"));
                 assert_eq!(ask(&touch(length, place as i64, b'!')), changed);
@@ -390,7 +393,7 @@ mod tests {
             Err(Breach::Died(status)) => status.signal(),
             other => panic!("{other:?}"),
         };
-        for length in [0, 1, 150, 4096] {
+        for length in [0, 1, 150, 4096, LONGEST] {
             for past in [0, 1, 7, 4095, 65_535] {
                 assert_eq!(touched(&touch(length, length as i64 + past, 0)), Some(11), "read");
             }

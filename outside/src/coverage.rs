@@ -63,337 +63,80 @@ impl fmt::Display for Entry {
     }
 }
 
-/// One row of a list: number, item, code.
-type Row = (u64, u64, &'static str);
-
-const NONE: &str = "0000";
+/// A list of answers: `12:0103` is number 4 at item 12 with code 0103, `7@6` another number at an item, without a code.
+type Rows = &'static str;
 
 // Headers.
 
-const ENROLMENT_HEADER: &[Row] = &[
-    (4, 1, "0081"),
-    (4, 2, "0081"),
-    (4, 3, "0088"),
-    (5, 4, NONE),
-    (4, 4, "0088"),
-    (4, 5, "0088"),
-    (4, 5, "9998"),
-    (5, 5, NONE),
-    (4, 6, "0089"),
-];
-
-const DEBIT_HEADER: &[Row] = &[
-    (4, 1, "0081"),
-    (4, 2, "0081"),
-    (4, 3, "0088"),
-    (5, 4, NONE),
-    (4, 4, "0088"),
-    (4, 5, "0088"),
-    (4, 5, "9998"),
-    (5, 5, NONE),
-    (4, 6, "0011"),
-    (4, 7, "0098"),
-    (4, 8, "0089"),
-];
+const ENROLMENT_HEADER: Rows = "1:0081 2:0081 3:0088 4:0088 5:0088 5:9998 6:0089 5@4 5@5";
+const DEBIT_HEADER: Rows = "1:0081 2:0081 3:0088 4:0088 5:0088 5:9998 6:0011 7:0098 8:0089 5@4 5@5";
 
 // Data records.
 
-const EB13_DATA: &[Row] = &[
-    (4, 1, "0081"),
-    (4, 2, "0081"),
-    (5, 3, NONE),
-    (4, 4, "A011"),
-    (4, 5, "A012"),
-    (4, 6, "0098"),
-    (4, 7, "0011"),
-    (4, 8, "0098"),
-    (4, 9, "0098"),
-    (4, 10, "0089"),
-    (4, 11, "0098"),
-    (4, 12, "0089"),
-    (4, 13, "0089"),
-    (4, 14, "0088"),
-    (4, 15, "0089"),
-    (4, 16, "0089"),
-    (7, 6, NONE),
-];
-
-const EB14_DATA: &[Row] = &[
-    (4, 1, "0081"),
-    (4, 2, "0081"),
-    (5, 3, NONE),
-    (4, 4, "A011"),
-    (4, 5, "A012"),
-    (4, 6, "0098"),
-    (4, 7, "0011"),
-    (4, 8, "0098"),
-    (4, 9, "0098"),
-    (4, 10, "0089"),
-    (4, 11, "0098"),
-    (4, 12, "0088"),
-    (4, 13, "0089"),
-    (4, 14, "0088"),
-    (4, 15, "0089"),
-    (4, 16, "0089"),
-    (7, 6, NONE),
-];
-
-const EB21_DATA: &[Row] = &[
-    (4, 1, "0081"),
-    (4, 2, "0081"),
-    (5, 3, NONE),
-    (4, 4, "0011"),
-    (4, 5, "0098"),
-    (4, 6, "0088"),
-    (4, 6, "0061"),
-    (4, 7, "0098"),
-    (4, 8, "0089"),
-    (4, 9, "0068"),
-    (4, 10, "0098"),
-    (4, 11, "0098"),
-    (4, 12, "0088"),
-    (4, 13, "0075"),
-    (4, 14, "0088"),
-    (4, 15, "0089"),
-    (7, 11, NONE),
-];
-
-const EB22_DATA: &[Row] = &[
-    (4, 1, "0081"),
-    (4, 2, "0081"),
-    (5, 3, NONE),
-    (4, 4, "0011"),
-    (4, 5, "0098"),
-    (4, 6, "0088"),
-    (4, 6, "0061"),
-    (4, 7, "0098"),
-    (4, 8, "0088"),
-    (4, 9, "0068"),
-    (4, 10, "0098"),
-    (4, 11, "0098"),
-    (4, 12, "0088"),
-    (4, 13, "0075"),
-    (4, 14, "0088"),
-    (4, 15, "0089"),
-    (7, 11, NONE),
-];
+const EB13_DATA: Rows =
+    "1:0081 2:0081 4:A011 5:A012 6:0098 7:0011 8:0098 9:0098 10:0089 11:0098 12:0089 13:0089 14:0088 \
+     15:0089 16:0089 5@3 7@6";
+const EB14_DATA: Rows =
+    "1:0081 2:0081 4:A011 5:A012 6:0098 7:0011 8:0098 9:0098 10:0089 11:0098 12:0088 13:0089 14:0088 \
+     15:0089 16:0089 5@3 7@6";
+const EB21_DATA: Rows =
+    "1:0081 2:0081 4:0011 5:0098 6:0088 6:0061 7:0098 8:0089 9:0068 10:0098 11:0098 12:0088 13:0075 \
+     14:0088 15:0089 5@3 7@11";
+const EB22_DATA: Rows =
+    "1:0081 2:0081 4:0011 5:0098 6:0088 6:0061 7:0098 8:0088 9:0068 10:0098 11:0098 12:0088 13:0075 \
+     14:0088 15:0089 5@3 7@11";
 
 // Trailers.
 
-const EB13_TRAILER: &[Row] = &[
-    (4, 1, "0081"),
-    (4, 2, "0081"),
-    (5, 3, NONE),
-    (5, 4, NONE),
-    (4, 5, "0088"),
-    (4, 6, "0088"),
-    (4, 7, "0090"),
-    (4, 8, "0088"),
-    (4, 9, "0088"),
-    (4, 10, "0089"),
-    (4, 11, "0089"),
-    (6, 5, NONE),
-    (6, 6, NONE),
-    (6, 8, NONE),
-    (6, 9, NONE),
-];
-
-const EB14_TRAILER: &[Row] = &[
-    (4, 1, "0081"),
-    (4, 2, "0081"),
-    (5, 3, NONE),
-    (5, 4, NONE),
-    (4, 5, "0088"),
-    (4, 6, "0088"),
-    (4, 7, "0090"),
-    (4, 8, "0088"),
-    (4, 9, "0088"),
-    (4, 10, "0089"),
-    (4, 11, "0088"),
-    (6, 5, NONE),
-    (6, 6, NONE),
-    (6, 8, NONE),
-    (6, 9, NONE),
-];
-
-const EB21_TRAILER: &[Row] = &[
-    (4, 1, "0081"),
-    (4, 2, "0081"),
-    (5, 3, NONE),
-    (5, 4, NONE),
-    (4, 5, "0088"),
-    (4, 6, "0088"),
-    (4, 7, "0088"),
-    (4, 8, "0090"),
-    (4, 9, "0090"),
-    (4, 10, "0089"),
-    (4, 11, "0089"),
-    (6, 5, NONE),
-    (6, 6, NONE),
-    (6, 7, NONE),
-];
-
-const EB22_TRAILER: &[Row] = &[
-    (4, 1, "0081"),
-    (4, 2, "0081"),
-    (5, 3, NONE),
-    (5, 4, NONE),
-    (4, 5, "0088"),
-    (4, 6, "0088"),
-    (4, 7, "0088"),
-    (4, 8, "0088"),
-    (4, 9, "0088"),
-    (4, 10, "0088"),
-    (4, 11, "0090"),
-    (4, 12, "0088"),
-    (4, 13, "0090"),
-    (4, 14, "0089"),
-    (4, 15, "0088"),
-    (6, 5, NONE),
-    (6, 6, NONE),
-    (6, 7, NONE),
-    (6, 8, NONE),
-    (6, 9, NONE),
-];
+const EB13_TRAILER: Rows =
+    "1:0081 2:0081 5:0088 6:0088 7:0090 8:0088 9:0088 10:0089 11:0089 5@3 5@4 6@5 6@6 6@8 6@9";
+const EB14_TRAILER: Rows =
+    "1:0081 2:0081 5:0088 6:0088 7:0090 8:0088 9:0088 10:0089 11:0088 5@3 5@4 6@5 6@6 6@8 6@9";
+const EB21_TRAILER: Rows =
+    "1:0081 2:0081 5:0088 6:0088 7:0088 8:0090 9:0090 10:0089 11:0089 5@3 5@4 6@5 6@6 6@7";
+const EB22_TRAILER: Rows =
+    "1:0081 2:0081 5:0088 6:0088 7:0088 8:0088 9:0088 10:0088 11:0090 12:0088 13:0090 14:0089 15:0088 \
+     5@3 5@4 6@5 6@6 6@7 6@8 6@9";
 
 // Writing: items 1 to 3 of data records and the trailer are the writer's own,
 // so 5 can't occur there, and 6 only for the sum over 13 digits.
 
-const EB13_WRITTEN_HEADER: &[Row] = &[(4, 3, "0088"), (4, 4, "0088"), (4, 5, "0088"), (4, 5, "9998")];
-
-const EB21_WRITTEN_HEADER: &[Row] =
-    &[(4, 3, "0088"), (4, 4, "0088"), (4, 5, "0088"), (4, 5, "9998"), (4, 6, "0011"), (4, 7, "0098")];
-
-const EB13_WRITTEN_DATA: &[Row] = &[
-    (4, 4, "A011"),
-    (4, 5, "A012"),
-    (4, 6, "0098"),
-    (4, 7, "0011"),
-    (4, 8, "0098"),
-    (4, 9, "0098"),
-    (4, 10, "0089"),
-    (4, 11, "0098"),
-    (4, 12, "0089"),
-    (4, 13, "0089"),
-    (4, 14, "0088"),
-    (4, 15, "0089"),
-    (4, 16, "0089"),
-    (7, 6, NONE),
-];
-
-const EB21_WRITTEN_DATA: &[Row] = &[
-    (4, 4, "0011"),
-    (4, 5, "0098"),
-    (4, 6, "0088"),
-    (4, 6, "0061"),
-    (4, 7, "0098"),
-    (4, 8, "0089"),
-    (4, 9, "0068"),
-    (4, 10, "0098"),
-    (4, 11, "0098"),
-    (4, 12, "0088"),
-    (4, 13, "0075"),
-    (4, 14, "0088"),
-    (4, 15, "0089"),
-    (7, 11, NONE),
-];
-
-const EB21_WRITTEN_TRAILER: &[Row] = &[(6, 7, NONE)];
+const EB13_WRITTEN_HEADER: Rows = "3:0088 4:0088 5:0088 5:9998";
+const EB21_WRITTEN_HEADER: Rows = "3:0088 4:0088 5:0088 5:9998 6:0011 7:0098";
+const EB13_WRITTEN_DATA: Rows =
+    "4:A011 5:A012 6:0098 7:0011 8:0098 9:0098 10:0089 11:0098 12:0089 13:0089 14:0088 15:0089 \
+     16:0089 7@6";
+const EB21_WRITTEN_DATA: Rows =
+    "4:0011 5:0098 6:0088 6:0061 7:0098 8:0089 9:0068 10:0098 11:0098 12:0088 13:0075 14:0088 15:0089 \
+     7@11";
+const EB21_WRITTEN_TRAILER: Rows = "6@7";
 
 // The pair itself.  Items 3, the key's and the blank ones can't differ when
 // they are compared: 12 and the reading of both files have met them before.
+// 13 at the key's item: no request has the key.
 
-const ENROLMENT_HEADERS: &[Row] = &[(12, 3, NONE), (12, 5, NONE)];
-
-const DEBIT_HEADERS: &[Row] = &[(12, 3, NONE), (12, 5, NONE), (12, 6, NONE), (12, 7, NONE)];
-
-const ENROLMENT_RESULTS: &[Row] = &[
-    (13, 6, NONE), // no request has the key
-    (13, 4, NONE),
-    (13, 7, NONE),
-    (13, 8, NONE),
-    (13, 9, NONE),
-    (13, 11, NONE),
-    (13, 14, NONE),
-];
-
-const DEBIT_RESULTS: &[Row] = &[
-    (13, 11, NONE), // no request has the key
-    (13, 4, NONE),
-    (13, 5, NONE),
-    (13, 7, NONE),
-    (13, 9, NONE),
-    (13, 10, NONE),
-    (13, 13, NONE),
-    (13, 14, NONE),
-    (14, 6, NONE),
-    (14, 13, NONE),
-];
+const ENROLMENT_HEADERS: Rows = "12@3 12@5";
+const DEBIT_HEADERS: Rows = "12@3 12@5 12@6 12@7";
+const ENROLMENT_RESULTS: Rows = "13@6 13@4 13@7 13@8 13@9 13@11 13@14";
+const DEBIT_RESULTS: Rows = "13@11 13@4 13@5 13@7 13@9 13@10 13@13 13@14 14@6 14@13";
 
 // Evidence; both profiles can give the same answers.
 
-const EVIDENCE_HEADER: &[Row] = &[
-    (4, 1, "0081"),
-    (4, 2, "0081"),
-    (4, 3, "0081"),
-    (4, 4, "9998"),
-    (4, 5, "0088"),
-    (4, 6, "0088"),
-    (4, 7, "0089"),
-    (6, 6, NONE),
-];
-
-const EVIDENCE_DATA: &[Row] = &[
-    (4, 1, "0081"),
-    (4, 2, "0081"),
-    (4, 3, "0081"),
-    (4, 4, "0089"),
-    (4, 5, "0088"),
-    (5, 5, NONE),
-    (4, 6, "0098"),
-    (4, 7, "0088"),
-    (4, 8, "0098"),
-    (4, 9, "9998"),
-    (4, 10, "0101"),
-    (4, 11, "0102"),
-    (4, 12, "0088"),
-    (4, 12, "0103"),
-    (4, 14, "0089"),
-    (7, 6, NONE),
-];
-
-const EVIDENCE_TRAILER: &[Row] = &[
-    (4, 1, "0081"),
-    (4, 2, "0081"),
-    (4, 3, "0081"),
-    (4, 4, "0088"),
-    (5, 4, NONE),
-    (4, 5, "0088"),
-    (4, 6, "0088"),
-    (4, 7, "0089"),
-    (6, 5, NONE),
-    (6, 6, NONE),
-];
+const EVIDENCE_HEADER: Rows = "1:0081 2:0081 3:0081 4:9998 5:0088 6:0088 7:0089 6@6";
+const EVIDENCE_DATA: Rows =
+    "1:0081 2:0081 3:0081 4:0089 5:0088 6:0098 7:0088 8:0098 9:9998 10:0101 11:0102 12:0088 12:0103 \
+     14:0089 5@5 7@6";
+const EVIDENCE_TRAILER: Rows = "1:0081 2:0081 3:0081 4:0088 5:0088 6:0088 7:0089 5@4 6@5 6@6";
 
 // Items 1 to 5, the filler and the trailer are the writer's own.
 
-const EVIDENCE_WRITTEN_HEADER: &[Row] = &[(4, 4, "9998"), (4, 5, "0088")];
+const EVIDENCE_WRITTEN_HEADER: Rows = "4:9998 5:0088";
+const EVIDENCE_WRITTEN_DATA: Rows = "6:0098 7:0088 8:0098 9:9998 10:0101 11:0102 12:0088 12:0103 7@6";
 
-const EVIDENCE_WRITTEN_DATA: &[Row] = &[
-    (4, 6, "0098"),
-    (4, 7, "0088"),
-    (4, 8, "0098"),
-    (4, 9, "9998"),
-    (4, 10, "0101"),
-    (4, 11, "0102"),
-    (4, 12, "0088"),
-    (4, 12, "0103"),
-    (7, 6, NONE),
-];
+// Enrolments beside their evidence.
 
-const EVIDENCE_HEADERS: &[Row] = &[(12, 3, NONE), (12, 5, NONE)];
-
-const EVIDENCE_MISSING_OR_FOREIGN: &[Row] = &[(20, 6, NONE), (21, 6, NONE)];
+const EVIDENCE_HEADERS: Rows = "12@3 12@5";
+const EVIDENCE_MISSING_OR_FOREIGN: Rows = "20@6 21@6";
 
 /// Every answer that the rules can give.
 pub fn all() -> Vec<Entry> {
@@ -432,21 +175,29 @@ pub fn all() -> Vec<Entry> {
     list.0
 }
 
+/// Number, item and code of a row.
+fn parsed(row: &str) -> Option<(u64, u64, [u8; 4])> {
+    if let Some((item, code)) = row.split_once(':') {
+        return Some((4, item.parse().ok()?, code.as_bytes().try_into().ok()?));
+    }
+    let (number, item) = row.split_once('@')?;
+    Some((number.parse().ok()?, item.parse().ok()?, NO_CODE))
+}
+
 #[derive(Default)]
 struct List(Vec<Entry>);
 
 impl List {
-    fn rows(&mut self, operation: Operation, side: u64, part: Part, rows: &[Row]) {
-        for &(number, item, code) in rows {
-            let mut four = NO_CODE;
-            four.copy_from_slice(code.as_bytes());
-            self.0.push(Entry { operation, side, number, part, item, code: four });
+    fn rows(&mut self, operation: Operation, side: u64, part: Part, rows: Rows) {
+        for row in rows.split_ascii_whitespace() {
+            let (number, item, code) = parsed(row).unwrap_or_else(|| panic!("no answer: {row}"));
+            self.0.push(Entry { operation, side, number, part, item, code });
         }
     }
 
     fn placeless(&mut self, operation: Operation, side: u64, numbers: &[u64]) {
         for &number in numbers {
-            self.rows(operation, side, Part::None, &[(number, 0, NONE)]);
+            self.0.push(Entry { operation, side, number, part: Part::None, item: 0, code: NO_CODE });
         }
     }
 

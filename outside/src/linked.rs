@@ -1,7 +1,7 @@
 //! The proved library linked into this program, with nothing copied and nothing watched, to measure its time. The archive
 //! is for x86-64.
 
-use crate::proved::Parts;
+use crate::proved::{EvidenceParts, Parts};
 
 extern "C" {
     fn cms_read(kind: u32, file: *const u8, file_length: usize, answer: *mut u64) -> u64;
@@ -31,6 +31,19 @@ extern "C" {
         taken_length: usize,
         not_taken: *mut u64,
         not_taken_length: usize,
+        answer: *mut u64,
+    ) -> u64;
+    fn cms_evidence_read(profile: u32, file: *const u8, file_length: usize, answer: *mut u64) -> u64;
+    fn cms_evidence_write(
+        profile: u32,
+        date: *const u8,
+        date_length: usize,
+        code: *const u8,
+        code_length: usize,
+        records: *const u8,
+        records_length: usize,
+        room: *mut u8,
+        room_length: usize,
         answer: *mut u64,
     ) -> u64;
 }
@@ -86,6 +99,33 @@ pub fn pair(
             taken.len(),
             not_taken.as_mut_ptr(),
             not_taken.len(),
+            answer.as_mut_ptr(),
+        )
+    };
+    answer
+}
+
+pub fn evidence_read(profile: u32, file: &[u8]) -> [u64; 5] {
+    let mut answer = [0; 5];
+    // Safe: each pointer is good for the length that stands beside it, till the call returns.
+    unsafe { cms_evidence_read(profile, file.as_ptr(), file.len(), answer.as_mut_ptr()) };
+    answer
+}
+
+pub fn evidence_write(profile: u32, parts: &EvidenceParts, room: &mut [u8]) -> [u64; 6] {
+    let mut answer = [0; 6];
+    // Safe: each pointer is good for the length that stands beside it, till the call returns.
+    unsafe {
+        cms_evidence_write(
+            profile,
+            parts.date.as_ptr(),
+            parts.date.len(),
+            parts.code.as_ptr(),
+            parts.code.len(),
+            parts.records.as_ptr(),
+            parts.records.len(),
+            room.as_mut_ptr(),
+            room.len(),
             answer.as_mut_ptr(),
         )
     };

@@ -24,6 +24,13 @@ const WALK: Function = Function { number: 4, lent: &["the file", "the answer"] }
 const APART: Function = Function { number: 6, lent: &["the file", "the bodies", "the answer"] };
 const POST: Function = Function { number: 5, lent: &["the request", "the result", "the text"] };
 
+const EVIDENCE_READ: Function = Function { number: 10, lent: &["the file", "the answer"] };
+const EVIDENCE_PART: Function = Function { number: 11, lent: &["the file", "the answer"] };
+const EVIDENCE_WRITE: Function =
+    Function { number: 12, lent: &["the date", "the code", "the records", "the room", "the answer"] };
+const EVIDENCE_COMPARE: Function =
+    Function { number: 13, lent: &["the enrolments", "the evidence", "the answer"] };
+
 /// What a file is written from.
 #[derive(Clone, Copy)]
 pub struct Parts<'a> {
@@ -32,6 +39,14 @@ pub struct Parts<'a> {
     pub item6: &'a [u8],
     pub item7: &'a [u8],
     pub bodies: &'a [u8],
+}
+
+/// What a file of evidence is written from.
+#[derive(Clone, Copy)]
+pub struct EvidenceParts<'a> {
+    pub date: &'a [u8],
+    pub code: &'a [u8],
+    pub records: &'a [u8],
 }
 
 impl Call {
@@ -65,6 +80,24 @@ impl Call {
 
     pub fn post(request: &[u8], result: &[u8], text: &[u8]) -> Call {
         Call::of(&POST).slice(request).slice(result).room(text)
+    }
+
+    pub fn evidence_read(profile: u32, file: &[u8]) -> Call {
+        Call::of(&EVIDENCE_READ).number(profile.into()).slice(file).answer(5)
+    }
+
+    pub fn evidence_part(profile: u32, file: &[u8], record: u64) -> Call {
+        Call::of(&EVIDENCE_PART).number(profile.into()).slice(file).number(record).answer(8)
+    }
+
+    pub fn evidence_write(profile: u32, parts: &EvidenceParts, room: &[u8]) -> Call {
+        let EvidenceParts { date, code, records } = parts;
+        let header = Call::of(&EVIDENCE_WRITE).number(profile.into()).slice(date).slice(code);
+        header.slice(records).room(room).answer(6)
+    }
+
+    pub fn evidence_compare(profile: u32, enrolments: &[u8], evidence: &[u8]) -> Call {
+        Call::of(&EVIDENCE_COMPARE).number(profile.into()).slice(enrolments).slice(evidence).answer(5)
     }
 }
 
@@ -118,6 +151,28 @@ pub fn post(request: &[u8], result: &[u8], text: &mut [u8]) -> u64 {
     let said = kept(ask(&Call::post(request, result, text)));
     text.copy_from_slice(&said.written);
     said.returned
+}
+
+/// The answer of the proved reader of evidence.
+pub fn evidence_read(profile: u32, file: &[u8]) -> [u64; 5] {
+    kept(ask(&Call::evidence_read(profile, file)).and_then(|said| told(&said)))
+}
+
+/// The answer for one part of a file of evidence: the five, then case, start, length.
+pub fn evidence_part(profile: u32, file: &[u8], record: u64) -> [u64; 8] {
+    kept(ask(&Call::evidence_part(profile, file, record)).and_then(|said| told(&said)))
+}
+
+/// The answer of the proved writer of evidence: the five, then the file's length. It changes the room as its face says.
+pub fn evidence_write(profile: u32, parts: &EvidenceParts, room: &mut [u8]) -> [u64; 6] {
+    let said = kept(ask(&Call::evidence_write(profile, parts, room)));
+    room.copy_from_slice(&said.written[..room.len()]);
+    kept(told(&said))
+}
+
+/// The answer of the proved comparison of enrolments with their evidence.
+pub fn evidence_compare(profile: u32, enrolments: &[u8], evidence: &[u8]) -> [u64; 5] {
+    kept(ask(&Call::evidence_compare(profile, enrolments, evidence)).and_then(|said| told(&said)))
 }
 
 /// The numbers of an answer, which is lent last: the second of them was returned, too.

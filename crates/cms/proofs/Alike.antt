@@ -13,6 +13,10 @@ use Rattle.cms.proofs.pairs.cms_outcome.Reads as outcome
 use Rattle.cms.proofs.walk.cms_walk.Reads as walk
 use Rattle.cms.proofs.post.cms_post.Reads as post
 use Rattle.cms.proofs.taking.cms_apart.Reads as apart
+use Rattle.cms.proofs.of_evidence.cms_evidence_read.Reads as evidence-read
+use Rattle.cms.proofs.of_evidence.cms_evidence_part.Reads as evidence-part
+use Rattle.cms.proofs.of_evidence.cms_evidence_write.Reads as evidence-write
+use Rattle.cms.proofs.of_evidence.cms_evidence_compare.Reads as evidence-compare
 
 -- what a caller sees of a call: the number that it returns, and what each list that it may change holds at exit
 pub record Seen : Type 0 where
@@ -64,3 +68,15 @@ post-alike = alike post.Post _ _ (λ κ x r s p. p .0 with p .1 also end)
 
 pub apart-alike : Alike apart.Post (λ κ r s. sees r (now (s .1 .1 .0) ∷ now (s .1 .1 .1 .0) ∷ []))
 apart-alike = alike apart.Post _ _ (λ κ x r s p. p .0 with p .1 .0 also p .1 .1 also end)
+
+pub evidence-read-alike : Alike evidence-read.Post (λ κ r s. sees r (now (s .1 .1 .0) ∷ []))
+evidence-read-alike = alike evidence-read.Post _ _ (λ κ x r s p. p .0 with p .1 also end)
+
+pub evidence-part-alike : Alike evidence-part.Post (λ κ r s. sees r (now (s .1 .1 .1 .0) ∷ []))
+evidence-part-alike = alike evidence-part.Post _ _ (λ κ x r s p. p .0 with p .1 also end)
+
+pub evidence-write-alike : Alike evidence-write.Post (λ κ r s. sees r (now (s .1 .1 .1 .1 .0) ∷ now (s .1 .1 .1 .1 .1 .0) ∷ []))
+evidence-write-alike = alike evidence-write.Post _ _ (λ κ x r s p. p .0 with p .1 .0 also p .1 .1 also end)
+
+pub evidence-compare-alike : Alike evidence-compare.Post (λ κ r s. sees r (now (s .1 .1 .1 .0) ∷ []))
+evidence-compare-alike = alike evidence-compare.Post _ _ (λ κ x r s p. p .0 with p .1 also end)

@@ -3,9 +3,9 @@
 use super::evidence_good::most_evidence;
 use super::evidence_places::{evidence_records, is_whole, said_length, some_part, BLOCK, FRONT};
 use super::evidence_texts::{some_extension, text_for_item};
-use super::other_texts::text_of_any_class;
+use super::other_texts::{other_number, text_of_any_class};
 use super::random::Rng;
-use super::texts::{decimal, digits};
+use super::texts::decimal;
 use std::ops::Range;
 
 /// One byte anywhere, mostly of an item.
@@ -84,19 +84,7 @@ pub(super) fn change_count(rng: &mut Rng, file: &mut [u8]) {
     let trailer = file.len() - BLOCK;
     let counts = [43..50, 43..50, trailer + 35..trailer + 42, trailer + 42..trailer + 52];
     let place = rng.pick(&counts);
-    let length = place.len();
-    let old = file[place.clone()].iter().fold(0u64, |n, d| n * 10 + u64::from(d.wrapping_sub(b'0') % 10));
-    let text = match rng.below(6) {
-        0 | 1 => decimal(old + 1, length),
-        2 => decimal(old.saturating_sub(1), length),
-        3 => digits(rng, length),
-        4 => vec![b'0'; length],
-        _ => {
-            let mut text = decimal(old, length);
-            text[rng.index(length)] = rng.odd_byte();
-            text
-        }
-    };
+    let text = other_number(rng, &file[place.clone()]);
     file[place].copy_from_slice(&text);
 }
 

@@ -1,17 +1,11 @@
-//! Records, blocks and bytes of a file of evidence come, go and change places.
+//! Records and blocks of a file of evidence come, go and change places.
 
 use super::evidence_good::evidence_of;
 use super::evidence_places::{evidence_records, BLOCK};
 use super::random::Rng;
 use super::texts::spaces;
+use super::units::{swap, unit};
 use crate::evidence::layout::Profile;
-
-/// The file is cut, at a block's end or anywhere.
-pub(super) fn cut(rng: &mut Rng, file: &mut Vec<u8>) {
-    let length =
-        if rng.once_in(2) { rng.index(file.len() / BLOCK + 1) * BLOCK } else { rng.index(file.len() + 1) };
-    file.truncate(length);
-}
 
 /// The file and another, or the file twice.
 pub(super) fn join(rng: &mut Rng, file: &mut Vec<u8>) {
@@ -38,9 +32,7 @@ pub(super) fn swap_blocks(rng: &mut Rng, file: &mut [u8]) {
         return;
     }
     let (one, other) = (rng.index(blocks), rng.index(blocks));
-    for byte in 0..BLOCK {
-        file.swap(one * BLOCK + byte, other * BLOCK + byte);
-    }
+    swap(BLOCK, file, one, other);
 }
 
 pub(super) fn double_record(rng: &mut Rng, file: &mut Vec<u8>) {
@@ -62,8 +54,7 @@ pub(super) fn remove_record(rng: &mut Rng, file: &mut Vec<u8>) {
 pub(super) fn remove_block(rng: &mut Rng, file: &mut Vec<u8>) {
     let blocks = file.len() / BLOCK;
     if blocks > 0 {
-        let at = rng.index(blocks) * BLOCK;
-        file.drain(at..at + BLOCK);
+        file.drain(unit(BLOCK, rng.index(blocks)));
     }
 }
 
@@ -73,10 +64,7 @@ pub(super) fn insert_block(rng: &mut Rng, file: &mut Vec<u8>) {
     let block = match rng.below(4) {
         0 => spaces(BLOCK),
         1 => vec![b'0'; BLOCK],
-        2 if blocks > 0 => {
-            let at = rng.index(blocks) * BLOCK;
-            file[at..at + BLOCK].to_vec()
-        }
+        2 if blocks > 0 => file[unit(BLOCK, rng.index(blocks))].to_vec(),
         _ => rng.bytes(BLOCK),
     };
     let at = rng.index(blocks + 1) * BLOCK;
@@ -86,24 +74,6 @@ pub(super) fn insert_block(rng: &mut Rng, file: &mut Vec<u8>) {
 /// A block, or the whole file, becomes random bytes.
 pub(super) fn scramble(rng: &mut Rng, file: &mut [u8]) {
     let blocks = file.len() / BLOCK;
-    let place = if blocks > 0 && !rng.once_in(4) {
-        let at = rng.index(blocks) * BLOCK;
-        at..at + BLOCK
-    } else {
-        0..file.len()
-    };
+    let place = if blocks > 0 && !rng.once_in(4) { unit(BLOCK, rng.index(blocks)) } else { 0..file.len() };
     file[place].iter_mut().for_each(|byte| *byte = rng.byte());
-}
-
-/// A byte too many or too few, at the front, the end or anywhere.
-pub(super) fn shift(rng: &mut Rng, file: &mut Vec<u8>) {
-    let anywhere = rng.index(file.len() + 1);
-    let at = rng.pick(&[0, file.len(), anywhere]);
-    if rng.once_in(2) {
-        file.insert(at, rng.odd_byte());
-    } else if at < file.len() {
-        file.remove(at);
-    } else {
-        file.pop();
-    }
 }

@@ -5,10 +5,11 @@ use super::evidence_items::{
 };
 use super::evidence_mending::{mend_evidence_codes, mend_evidence_counts, mend_evidence_serials};
 use super::evidence_moved::{
-    cut, double_record, insert_block, join, remove_block, remove_record, scramble, shift, swap_blocks,
-    swap_records,
+    double_record, insert_block, join, remove_block, remove_record, scramble, swap_blocks, swap_records,
 };
+use super::evidence_places::BLOCK;
 use super::random::Rng;
+use super::units::{cut, shift};
 
 /// Spoils a file in one way or a few; afterwards it is mended or not.
 pub fn spoil_evidence(rng: &mut Rng, file: &mut Vec<u8>) {
@@ -35,7 +36,7 @@ fn spoil_once(rng: &mut Rng, file: &mut Vec<u8>) {
         39..=43 => change_count(rng, file),
         44..=47 => copy_key(rng, file),
         48 | 49 => change_filler(rng, file),
-        50 => cut(rng, file),
+        50 => cut(rng, BLOCK, file),
         51 => join(rng, file),
         52 => swap_records(rng, file),
         53 => swap_blocks(rng, file),

@@ -2,7 +2,7 @@
 
 use super::draft::LARGEST_AMOUNT;
 use super::mending::mend_totals;
-use super::other_texts::{other_text, DataItem};
+use super::other_texts::{other_number, other_text, DataItem};
 use super::places::{is_whole, item_lengths, item_place, raw_records, some_record};
 use super::random::Rng;
 use super::texts::{date, decimal, digits, no_date};
@@ -89,19 +89,7 @@ pub(super) fn change_total(rng: &mut Rng, kind: Kind, file: &mut [u8]) {
     let most = if kind == Kind::EB22 { 12 } else { 9 };
     let item = rng.between(5, most) as usize;
     let place = item_place(kind, file, last, item);
-    let length = place.len();
-    let old = file[place.clone()].iter().fold(0u64, |n, d| n * 10 + u64::from(d.wrapping_sub(b'0') % 10));
-    let text = match rng.below(6) {
-        0 | 1 => decimal(old + 1, length),
-        2 => decimal(old.saturating_sub(1), length),
-        3 => digits(rng, length),
-        4 => vec![b'0'; length],
-        _ => {
-            let mut text = decimal(old, length);
-            text[rng.index(length)] = rng.odd_byte();
-            text
-        }
-    };
+    let text = other_number(rng, &file[place.clone()]);
     file[place].copy_from_slice(&text);
 }
 

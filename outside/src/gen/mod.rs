@@ -30,6 +30,7 @@ mod requests;
 mod results;
 mod spoiling;
 mod texts;
+mod units;
 mod writes;
 
 pub use draft::{Draft, LARGEST_AMOUNT};

@@ -25,6 +25,23 @@ pub(super) fn other_text(rng: &mut Rng, kind: Kind, data_item: Option<DataItem>,
     text_of_any_class(rng, old)
 }
 
+/// Another number of as many digits, or the old one with a strange byte.
+pub(super) fn other_number(rng: &mut Rng, old: &[u8]) -> Vec<u8> {
+    let length = old.len();
+    let old = old.iter().fold(0u64, |n, d| n * 10 + u64::from(d.wrapping_sub(b'0') % 10));
+    match rng.below(6) {
+        0 | 1 => decimal(old + 1, length),
+        2 => decimal(old.saturating_sub(1), length),
+        3 => digits(rng, length),
+        4 => vec![b'0'; length],
+        _ => {
+            let mut text = decimal(old, length);
+            text[rng.index(length)] = rng.odd_byte();
+            text
+        }
+    }
+}
+
 /// A text as long as the old one, which has a byte at least.
 pub(super) fn text_of_any_class(rng: &mut Rng, old: &[u8]) -> Vec<u8> {
     let length = old.len();

@@ -3,9 +3,8 @@
 use super::items_changed::{change_byte, change_header, change_item, change_total, copy_key, overflow_sum};
 use super::mending::{mend_copies, mend_serials, mend_totals};
 use super::random::Rng;
-use super::records_moved::{
-    cut, double_record, insert_record, join, remove_record, scramble, shift, swap_records,
-};
+use super::records_moved::{double_record, insert_record, join, remove_record, scramble, swap_records};
+use super::units::{cut, shift};
 use crate::layout::Kind;
 
 /// Spoils a file in one way or a few; afterwards it is mended or not.
@@ -40,7 +39,7 @@ fn spoil_once(rng: &mut Rng, kind: Kind, file: &mut Vec<u8>) {
         37..=41 => change_header(rng, kind, file),
         42..=46 => change_total(rng, kind, file),
         47..=49 => copy_key(rng, kind, file),
-        50 => cut(rng, kind, file),
+        50 => cut(rng, kind.record_length(), file),
         51 => join(rng, kind, file),
         52 => swap_records(rng, kind, file),
         53 => double_record(rng, kind, file),

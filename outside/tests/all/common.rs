@@ -2,7 +2,8 @@
 
 use outside::bridge::{Breach, Said};
 use outside::coverage::{Counter, Entry};
-use outside::gen::{self, Rng};
+use outside::evidence::layout::Profile;
+use outside::gen::{self, EvidenceDraft, Rng};
 use outside::layout::Kind;
 use std::hash::{DefaultHasher, Hash, Hasher};
 use std::path::PathBuf;
@@ -53,6 +54,19 @@ pub fn proved_shown(said: &Result<Said, Breach>) -> String {
     }
 }
 
+/// The same where it also leaves a room, before the answer: whether that is this one.
+pub fn proved_shown_with_room(said: &Result<Said, Breach>, room: &[u8]) -> String {
+    match said {
+        Ok(Said { returned, written }) => {
+            let (other, answer) = written.split_at(room.len());
+            let answer = shown(&Said::new(0).bytes(answer).as_numbers());
+            let another = if other == room { "the same" } else { "another" };
+            format!("{returned} returned; {answer}; {another} room")
+        }
+        Err(breach) => breach.to_string(),
+    }
+}
+
 /// Writes bytes to look at, under a name of their own, and says where.
 pub fn keep(name: &str, bytes: &[u8]) -> PathBuf {
     let mut hasher = DefaultHasher::new();
@@ -76,6 +90,26 @@ pub fn good_file(rng: &mut Rng, kind: Kind, n: usize) -> Vec<u8> {
     }
 }
 
+/// A good file of evidence whose records have these lengths of evidence.
+pub fn evidence_of_lengths(rng: &mut Rng, lengths: &[usize]) -> EvidenceDraft {
+    let mut draft = gen::evidence_of(rng, Profile::Ordinary, lengths.len());
+    for (given, &length) in draft.records.iter_mut().zip(lengths) {
+        given.put(10, b"6");
+        given.put(11, b"pNg  ");
+        given.put_evidence(gen::any_evidence_bytes(rng, length));
+    }
+    draft
+}
+
 pub fn put(file: &mut [u8], start: usize, text: &[u8]) {
     file[start..start + text.len()].copy_from_slice(text);
+}
+
+/// Nothing, zeros, capitals, a byte of no class, and one more.
+pub fn other_texts(item: &[u8]) -> [Vec<u8>; 5] {
+    let [mut strange, mut more] = [item.to_vec(), item.to_vec()];
+    strange[0] = 1;
+    let last = more.len() - 1;
+    more[last] = if more[last] == b'9' { b'0' } else { more[last].wrapping_add(1) };
+    [vec![b' '; item.len()], vec![b'0'; item.len()], vec![b'Z'; item.len()], strange, more]
 }

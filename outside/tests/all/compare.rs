@@ -2,7 +2,7 @@
 //!
 //! `OUTSIDE_SEED` and `OUTSIDE_COUNT` choose the generated files.
 
-use super::common::{check_coverage, good_file, keep, proved_shown, put, shown};
+use super::common::{check_coverage, good_file, keep, other_texts, proved_shown, put, shown};
 use outside::bridge::{ask, Call, Queue, Said};
 use outside::coverage::{Counter, Operation};
 use outside::gen::{self, Rng};
@@ -199,15 +199,6 @@ fn faults(kind: Kind, file: &[u8], n: usize) -> Vec<(usize, Vec<u8>)> {
         start += length;
     }
     faults
-}
-
-/// Nothing, zeros, capitals, a byte of no class, and one more.
-fn other_texts(item: &[u8]) -> [Vec<u8>; 5] {
-    let [mut strange, mut more] = [item.to_vec(), item.to_vec()];
-    strange[0] = 1;
-    let last = more.len() - 1;
-    more[last] = if more[last] == b'9' { b'0' } else { more[last].wrapping_add(1) };
-    [vec![b' '; item.len()], vec![b'0'; item.len()], vec![b'Z'; item.len()], strange, more]
 }
 
 /// Five records with every choice of four payers and of two texts in the key's other item.

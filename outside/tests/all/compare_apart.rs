@@ -2,7 +2,7 @@
 //!
 //! `OUTSIDE_SEED` and `OUTSIDE_COUNT` choose the generated files.
 
-use super::common::{check_coverage, good_file, keep, shown};
+use super::common::{check_coverage, good_file, keep, proved_shown_with_room, shown};
 use outside::bridge::{ask, Call, Queue, Said};
 use outside::coverage::{Counter, Operation};
 use outside::gen::{self, Rng};
@@ -51,15 +51,7 @@ fn report(Input { kind, file, bodies }: &Input) -> ! {
         |file: &[u8]| ask(&Call::apart(*kind, file, bodies)) != Ok(said(&ours(*kind, file, bodies)));
     let smallest = shrink(Kind::known(*kind), file, differ);
     let (told, length, memory) = ours(*kind, &smallest, bodies);
-    let proved = match ask(&Call::apart(*kind, &smallest, bodies)) {
-        Ok(Said { returned, written }) => {
-            let (other, answer) = written.split_at(bodies.len());
-            let answer = shown(&Said::new(0).bytes(answer).as_numbers());
-            let another = if other == memory { "the same" } else { "other" };
-            format!("{returned} returned; {answer}; {another} bytes in memory")
-        }
-        Err(breach) => breach.to_string(),
-    };
+    let proved = proved_shown_with_room(&ask(&Call::apart(*kind, &smallest, bodies)), &memory);
     panic!(
         "the two differ on a file of kind {kind:#010x} with memory for {} bytes of bodies\nreference: {}\n\
          proved:    {proved}\nthe file:  {}",

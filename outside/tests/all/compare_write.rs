@@ -2,7 +2,7 @@
 //!
 //! `OUTSIDE_SEED` and `OUTSIDE_COUNT` choose the generated inputs.
 
-use super::common::{check_coverage, keep, shown};
+use super::common::{check_coverage, keep, proved_shown_with_room, shown};
 use outside::bridge::{ask, Call, Queue, Said};
 use outside::coverage::{Counter, Operation};
 use outside::gen::{self, Rng, WriteInput};
@@ -54,15 +54,7 @@ fn report(input: &WriteInput) -> ! {
         }
     }
     let (told, room) = ours(&input);
-    let proved = match ask(&call(&input)) {
-        Ok(Said { returned, written }) => {
-            let (other, answer) = written.split_at(room.len());
-            let answer = shown(&Said::new(0).bytes(answer).as_numbers());
-            let another = if other == room { "the same" } else { "another" };
-            format!("{returned} returned; {answer}; {another} room")
-        }
-        Err(breach) => breach.to_string(),
-    };
+    let proved = proved_shown_with_room(&ask(&call(&input)), &room);
     let WriteInput { kind, date, code, item6, item7, .. } = &input;
     panic!(
         "the two differ on kind {kind:#010x}, date {}, code {}, items {} and {}, a room of {} bytes\n\

@@ -1,6 +1,6 @@
 //! docs/ITEMS.md and docs/CODES.md say what the library's tables say: every item with its bytes and its rules in
-//! their order, every code with who sets it. A line of either side that is not understood is a panic, so that a new
-//! kind is noticed.
+//! their order, every kind of evidence, every code with who sets it. A line of either side that is not understood is a
+//! panic, so that a new kind is noticed.
 
 use std::collections::{BTreeMap, BTreeSet};
 use std::path::Path;
@@ -19,6 +19,9 @@ struct Rule {
     words: String,
     told: String,
 }
+
+/// What is told of a rule that no bytes break.
+const NOTHING: &str = "nothing";
 
 // The library's side: definitions of tables, as far as tables need them.
 
@@ -96,9 +99,47 @@ impl Definitions {
         words.to_vec()
     }
 
+    /// Words with every defined name written out, in brackets, but for those that are kept.
+    fn spelled(&self, words: &[String], kept: &[&str]) -> Vec<String> {
+        let (mut left, mut found) = (words.to_vec(), Vec::new());
+        while !left.is_empty() {
+            let word = left.remove(0);
+            if !self.0.contains_key(&word) || kept.contains(&word.as_str()) {
+                found.push(word);
+                continue;
+            }
+            let (parameters, body) = self.only(&word);
+            let given: BTreeMap<&String, Vec<String>> =
+                parameters.iter().map(|parameter| (parameter, argument(&mut left))).collect();
+            let put_in = |word: &String| given.get(word).cloned().unwrap_or_else(|| vec![word.clone()]);
+            let body: Vec<String> = body.iter().flat_map(put_in).collect();
+            let mut spelled = self.spelled(&body, kept);
+            if spelled.len() > 1 {
+                spelled.insert(0, "(".to_string());
+                spelled.push(")".to_string());
+            }
+            found.extend(spelled);
+        }
+        found
+    }
+
     /// The numbers of a list, as codes.
     fn codes(&self, name: &str) -> Vec<String> {
         self.list(name).iter().map(|word| letters(word)).collect()
+    }
+}
+
+/// Takes one word from the front, or a bracket with all that is in it.
+fn argument(left: &mut Vec<String>) -> Vec<String> {
+    let (mut taken, mut open) = (Vec::new(), 0);
+    loop {
+        assert!(!left.is_empty(), "a definition is given too little");
+        let word = left.remove(0);
+        open += i32::from(word == "(") - i32::from(word == ")");
+        taken.push(word);
+        if open == 0 {
+            return taken;
+        }
     }
 }
 
@@ -133,8 +174,13 @@ fn in_words(class: &[String], size: u64, least: &str) -> String {
         ["KindName"] => "the kind of the file",
         ["Date"] => "a real date",
         ["NameDate"] => "its month and day are those of the file name",
-        ["Serial"] => "the number of the record, 00000001 in the first",
-        ["AsHeader"] => "as in the header",
+        ["Serial"] => {
+            return format!("the number of the record, {:0>width$} in the first", 1, width = size as usize)
+        }
+        // The header of evidence has its institution code at another place than the other records.
+        ["AsHeader"] | ["HeaderFrom", "23"] => "as in the header",
+        ["LongDate"] => "a full date",
+        ["Extension"] => "an extension of the kind",
         ["NotLater"] => "a real date, not later than the header's",
         ["Application"] => "\"1\" new, \"3\" cancelled or \"7\" cancelled at will",
         ["NotZero"] => "not zero",
@@ -147,14 +193,11 @@ fn in_words(class: &[String], size: u64, least: &str) -> String {
     said.to_string()
 }
 
-/// A table that is being read: the definitions, and the words that are left.
+/// A table that is being read: the words that are left.
 struct Reading<'a> {
-    definitions: &'a Definitions,
     left: Vec<String>,
     least: &'a str,
 }
-
-type Given = BTreeMap<String, Vec<Rule>>;
 
 impl Reading<'_> {
     fn next(&mut self) -> String {
@@ -169,13 +212,9 @@ impl Reading<'_> {
 
     /// One word, or what stands in brackets.
     fn group(&mut self) -> Vec<String> {
-        match self.next().as_str() {
-            "(" => {
-                let end = self.left.iter().position(|word| word == ")").expect("a bracket that closes");
-                let inside: Vec<String> = self.left.drain(..=end).collect();
-                inside[..end].to_vec()
-            }
-            word => vec![word.to_string()],
+        match &argument(&mut self.left)[..] {
+            [_, inside @ .., _] => inside.to_vec(),
+            word => word.to_vec(),
         }
     }
 
@@ -183,52 +222,57 @@ impl Reading<'_> {
     fn rule(&mut self, row: bool) -> Vec<Rule> {
         let (item, start, size) = (self.number(), self.number(), self.number());
         let words = in_words(&self.group(), size, self.least);
-        let told =
-            if row { letters(&self.definitions.only(&self.next()).1[0]) } else { "refusal 6".to_string() };
+        let told = if row { letters(&self.next()) } else { "refusal 6".to_string() };
         let told = if told == "0000" { "refusal 5".to_string() } else { told };
         vec![Rule { item, first: start + 1, last: start + size, words, told }]
     }
 
-    /// A part of a table by its name: given by the caller, or defined, with the parts that it is given.
-    fn named(&mut self, name: &str, given: &Given) -> Vec<Rule> {
-        if let Some(rules) = given.get(name) {
-            return rules.clone();
-        }
-        let (parameters, body) = self.definitions.only(name);
-        let values: Vec<Vec<Rule>> = parameters.iter().map(|_| self.part(given)).collect();
-        let inner = parameters.iter().cloned().zip(values).collect();
-        table(self.definitions, body, &inner, self.least)
-    }
-
-    fn part(&mut self, given: &Given) -> Vec<Rule> {
+    fn part(&mut self) -> Vec<Rule> {
         match self.next().as_str() {
             "[]" => Vec::new(),
             "(" => {
-                let rules = self.joined(given);
+                let rules = self.joined();
                 assert_eq!(self.next(), ")");
                 rules
             }
             "row" => self.rule(true),
             "total" => self.rule(false),
-            name => self.named(name, given),
+            word => panic!("not understood: {word}"),
         }
     }
 
     /// Parts one after the other: a row before a list, and lists joined, are the same here.
-    fn joined(&mut self, given: &Given) -> Vec<Rule> {
-        let mut rules = self.part(given);
+    fn joined(&mut self) -> Vec<Rule> {
+        let mut rules = self.part();
         while self.left.first().is_some_and(|word| ["∷", "++"].contains(&word.as_str())) {
             self.next();
-            rules.extend(self.part(given));
+            rules.extend(self.part());
         }
         rules
     }
 }
 
-fn table(definitions: &Definitions, body: &[String], given: &Given, least: &str) -> Vec<Rule> {
-    let mut reading = Reading { definitions, left: body.to_vec(), least };
-    let rules = reading.joined(given);
+fn table(definitions: &Definitions, body: &[String], least: &str) -> Vec<Rule> {
+    let mut reading = Reading { left: definitions.spelled(body, &["row", "total"]), least };
+    let rules = reading.joined();
     assert!(reading.left.is_empty(), "not understood: {:?}", reading.left);
+    rules.into_iter().fold(Vec::new(), with_next)
+}
+
+/// The rules with one more; letters that follow letters of the same item are one rule.
+fn with_next(mut rules: Vec<Rule>, next: Rule) -> Vec<Rule> {
+    let quoted = |rule: &Rule| {
+        let inside = rule.words.strip_prefix('"').and_then(|words| words.strip_suffix('"'));
+        inside.filter(|inside| !inside.contains('"')).map(str::to_string)
+    };
+    if let Some(before) = rules.last_mut() {
+        let follows = (before.item, &before.told, before.last + 1) == (next.item, &next.told, next.first);
+        if let (true, Some(one), Some(other)) = (follows, quoted(before), quoted(&next)) {
+            (before.words, before.last) = (format!("\"{one}{other}\""), next.last);
+            return rules;
+        }
+    }
+    rules.push(next);
     rules
 }
 
@@ -267,9 +311,12 @@ type Records = BTreeMap<(String, String), Vec<Rule>>;
 
 const ROLES: [&str; 3] = ["Header", "Data", "Trailer"];
 
+/// The definitions of a text of the library, by its path.
+type Texts<'a> = dyn Fn(&str) -> Definitions + 'a;
+
 /// The rules of every record of every kind, the trailer's totals after the other rules of their items.
-fn library(tables: &str, totals: &str, kinds: &str) -> Records {
-    let [tables, totals, kinds] = [tables, totals, kinds].map(Definitions::of);
+fn library(of: &Texts) -> Records {
+    let [tables, totals, kinds] = [TABLES, TOTALS, KINDS].map(of);
     tables.is("rowsOf k role = rowsFor (k .form) role");
     totals.is("totalsOf k = totalsFor (k .form)");
     let kinds = kinds_of(&kinds);
@@ -279,8 +326,7 @@ fn library(tables: &str, totals: &str, kinds: &str) -> Records {
             let mut rules = rules_of(&tables, "rowsFor", &[&kind.form, role], &kind.least);
             if role == "Trailer" {
                 for total in rules_of(&totals, "totalsFor", &[&kind.form], &kind.least) {
-                    let after = rules.iter().rposition(|rule| rule.item == total.item);
-                    rules.insert(after.expect("an item with a total") + 1, total);
+                    insert(&mut rules, total);
                 }
             }
             let record = (kind.letters.clone(), role.to_lowercase());
@@ -291,7 +337,167 @@ fn library(tables: &str, totals: &str, kinds: &str) -> Records {
         assert!(kinds.iter().any(|kind| kind.form == of[0]), "no kind has the form {}", of[0]);
         assert!(of[1..].iter().all(|role| ROLES.contains(&role.as_str())), "not understood: {of:?}");
     }
+    for profile in PROFILES {
+        for role in ROLES {
+            records.insert((profile.to_string(), role.to_lowercase()), evidence_rules(of, profile, role));
+        }
+    }
     records
+}
+
+/// A rule behind the others of its item.
+fn insert(rules: &mut Vec<Rule>, rule: Rule) {
+    let after = rules.iter().rposition(|other| other.item == rule.item).expect("an item with a rule");
+    let Rule { first, last, .. } = rules[after];
+    assert_eq!((first, last), (rule.first, rule.last), "the bytes of item {}", rule.item);
+    rules.insert(after + 1, rule);
+}
+
+/// Consent evidence, EI13: institutions that send it, and those that only say of which kind it is.
+const PROFILES: [&str; 2] = ["ordinary", "partly exempt"];
+
+/// The rules of a record of evidence: its rows, and what is asked beside them.
+fn evidence_rules(of: &Texts, profile: &str, role: &str) -> Vec<Rule> {
+    let rows = of(EVIDENCE_ROWS);
+    rows.is("dataRows exempt = cond exempt exemptRows ordinaryRows");
+    let exempt = profile == PROFILES[1];
+    let name = match role {
+        "Header" => "headerRows",
+        "Trailer" => "trailerRows",
+        _ if exempt => "exemptRows",
+        _ => "ordinaryRows",
+    };
+    let mut rules = table(&rows, &[name.to_string()], "");
+    let beside = if role == "Data" {
+        lengths(&of(EVIDENCE_JUDGED), exempt)
+    } else {
+        counts(&of(EVIDENCE_READING), role)
+    };
+    beside.into_iter().for_each(|rule| insert(&mut rules, rule));
+    rules.extend(if role == "Data" { behind_rows(&of(EVIDENCE_JUDGED)) } else { Vec::new() });
+    rules
+}
+
+fn asked(item: u64, (first, last): (u64, u64), words: &str, told: &str) -> Rule {
+    Rule { item, first, last, words: words.to_string(), told: told.to_string() }
+}
+
+/// What a length of evidence is held to besides its row.
+fn lengths(judged: &Definitions, exempt: bool) -> Vec<Rule> {
+    judged.is("lengthGood exempt kind length = \
+        cond exempt (eqb length 0) (ltb 0 length && leb length (mostOf kind))");
+    judged.is("lengthTold exempt s b n = \
+        cond (lengthGood exempt (kindAt s b) (lengthAt s b) && leb (nextOf s b) (lastBlock s)) \
+        accepted (refusedAt 4 n 12 0x30313033)");
+    let good = if exempt { "zero" } else { "from 1 to the most of the kind" };
+    [good, "no more than the data blocks hold"].map(|words| asked(12, (113, 119), words, "0103")).to_vec()
+}
+
+/// The items behind the rows of a data record: the evidence, of which nothing is asked, and the filler.
+fn behind_rows(judged: &Definitions) -> Vec<Rule> {
+    judged.is("fillerAt s b = part (b * block + (front + lengthAt s b)) \
+        (blocksFor (lengthAt s b) * block - (front + lengthAt s b)) s");
+    judged.is("fillerTold s b n = cond (spaces (fillerAt s b)) accepted (refusedAt 4 n 14 0x30303839)");
+    judged.is("blockTold exempt s b n = \
+        itemsTold exempt s b n then (lengthTold exempt s b n then fillerTold s b n)");
+    vec![asked(13, THE_EVIDENCE.1, "any bytes", NOTHING), asked(14, BEHIND_IT.1, "only spaces", "0089")]
+}
+
+/// What the counts of a header or trailer of evidence are held to.
+fn counts(reading: &Definitions, role: &str) -> Vec<Rule> {
+    reading.is("countTold said n item = cond said accepted (refusedAt 6 n item 0x30303030)");
+    reading.is("countsTold s = \
+        countTold (says (part 43 7 (blockAt s 0)) (recordsIn s)) 0 6 then \
+        (countTold (says (part 35 7 (blockAt s (lastBlock s))) (recordsIn s)) (recordsIn s + 1) 5 then \
+        countTold (says (part 42 10 (blockAt s (lastBlock s))) (dataBlocks s)) (recordsIn s + 1) 6)");
+    let count =
+        |item, bytes, of: &str| asked(item, bytes, &format!("the number of data {of}"), "refusal 6");
+    match role {
+        "Header" => vec![count(6, (44, 50), "records")],
+        _ => vec![count(5, (36, 42), "records"), count(6, (43, 52), "blocks")],
+    }
+}
+
+/// A kind of evidence: its number, its extensions in their order, and how many bytes it has at most.
+type EvidenceKind = (String, Vec<String>, u64);
+
+/// Kinds of evidence from one that each extension has.
+fn joined_kinds(rows: impl Iterator<Item = (String, String, u64)>) -> Vec<EvidenceKind> {
+    let mut kinds: Vec<EvidenceKind> = Vec::new();
+    for (kind, extension, most) in rows {
+        match kinds.last_mut() {
+            Some((last, extensions, size)) if (&*last, &*size) == (&kind, &most) => {
+                extensions.push(extension)
+            }
+            _ => kinds.push((kind, vec![extension], most)),
+        }
+    }
+    kinds
+}
+
+/// The kinds of evidence that the library takes.
+fn evidence_kinds(definitions: &Definitions) -> Vec<EvidenceKind> {
+    definitions
+        .is("allow most kind extension = record { kind = kind; extension = extension; most = most }");
+    let words = definitions.spelled(&["allowed".to_string()], &["allow"]);
+    let marks = ["(", ")", "∷", "++", "[]"];
+    let words: Vec<String> = words.into_iter().filter(|word| !marks.contains(&word.as_str())).collect();
+    joined_kinds(words.chunks(4).map(|row| match row {
+        [allow, most, kind, extension] if allow == "allow" => {
+            let most = most.parse().unwrap_or_else(|_| panic!("no number: {most}"));
+            (letters(kind), letters(extension).trim_end().to_string(), most)
+        }
+        _ => panic!("not understood: {row:?}"),
+    }))
+}
+
+/// How many blocks a record has whose evidence is so long, and how many bytes are left behind it.
+fn blocks(definitions: &Definitions, length: u64) -> (u64, u64) {
+    definitions.is("front = 119");
+    definitions.is("block = 1024");
+    definitions.is("blocksFor length = (front + length + 1023) / block");
+    let blocks = (119 + length).div_ceil(1024);
+    (blocks, blocks * 1024 - 119 - length)
+}
+
+/// Where the items of an enrolment stand in a record of evidence: the bytes of both, and what is added.
+type Agreeing = ((u64, u64), (u64, u64), String);
+
+/// What a comparison asks of an enrolment and its evidence, item by item.
+fn agreeing(of: &Texts) -> Vec<Agreeing> {
+    let (comparing, reading) = (of(COMPARING), of(EVIDENCE_READING));
+    reading.is("keyOf s i = part (byteOf s i + 45) 61 s");
+    comparing.is("longDate date = 0x32 ∷ 0x30 ∷ date");
+    let (_, body) = comparing.only("askedBy");
+    let words: Vec<&str> =
+        body.iter().map(String::as_str).filter(|word| !["(", ")", "++"].contains(word)).collect();
+    let number = |word: &str| word.parse::<u64>().unwrap_or_else(|_| panic!("no number: {word}"));
+    let (mut at, mut found, mut left) = (45, Vec::<Agreeing>::new(), &words[..]);
+    loop {
+        left = match left {
+            [] => break,
+            ["replicate", many, "0x20", rest @ ..] => {
+                at += number(many);
+                let (_, (_, last), added) = found.last_mut().expect("spaces behind an item");
+                (*last, *added) = (at, format!("{many} spaces behind it"));
+                rest
+            }
+            ["longDate", rest @ ..] | rest => {
+                let long = rest.len() < left.len();
+                let ["part", start, size, "r", rest @ ..] = rest else {
+                    panic!("not understood: {rest:?}")
+                };
+                let (start, size) = (number(start), number(size));
+                let wide = if long { size + 2 } else { size };
+                let added = if long { "\"20\" before it" } else { "nothing added" };
+                found.push(((start + 1, start + size), (at + 1, at + wide), added.to_string()));
+                at += wide;
+                rest
+            }
+        }
+    }
+    assert_eq!(at, 45 + 61, "the key");
+    found
 }
 
 /// The rules of the one clause of a table that is for this form, or for this form and role.
@@ -300,7 +506,7 @@ fn rules_of(definitions: &Definitions, name: &str, of: &[&str], least: &str) -> 
     let [(_, body)] = clauses.filter(|(one, _)| one == of).collect::<Vec<_>>()[..] else {
         panic!("not one clause: {name} {}", of.join(" "));
     };
-    table(definitions, body, &Given::new(), least)
+    table(definitions, body, least)
 }
 
 // The documents' side.
@@ -311,8 +517,15 @@ fn cells(line: &str) -> Vec<&str> {
     inside.unwrap_or_else(|| panic!("not understood: {line}")).split(" | ").collect()
 }
 
+/// Where the evidence stands and what is behind it, which no numbers say.
+const THE_EVIDENCE: (&str, (u64, u64)) = ("from 120, as many as item 12 says", (120, u64::MAX));
+const BEHIND_IT: (&str, (u64, u64)) = ("from there to the end of the block", (u64::MAX, u64::MAX));
+
 /// `10 to 19`, or `117` alone.
 fn bytes(cell: &str) -> (u64, u64) {
+    if let Some((_, place)) = [THE_EVIDENCE, BEHIND_IT].iter().find(|(words, _)| *words == cell) {
+        return *place;
+    }
     let number = |word: &str| word.parse().unwrap_or_else(|_| panic!("no bytes: {cell}"));
     let (first, last) = cell.split_once(" to ").unwrap_or((cell, cell));
     (number(first), number(last))
@@ -330,6 +543,7 @@ fn rules(row: &[&str], kind: &str, kinds: &[&str]) -> Vec<Rule> {
             continue;
         }
         let ended = rule.strip_suffix(')').and_then(|rule| rule.rsplit_once(" ("));
+        let ended = ended.or((rule == "any bytes").then_some((rule, NOTHING)));
         let (words, told) = ended.unwrap_or_else(|| panic!("not understood: {rule}"));
         let (words, (first, last)) = match words.split_once(" in bytes ") {
             Some((words, place)) => (words, bytes(place)),
@@ -344,7 +558,17 @@ fn rules(row: &[&str], kind: &str, kinds: &[&str]) -> Vec<Rule> {
     found
 }
 
-const TEXTS: [&str; 2] = ["How to look a refusal up", "The words of the rules"];
+const TEXTS: [&str; 6] = [
+    "How to look a refusal up",
+    "How to look a refusal of evidence up",
+    "The words of the rules",
+    BLOCKS_TITLE,
+    KINDS_TITLE,
+    AGREEING_TITLE,
+];
+const BLOCKS_TITLE: &str = "EI13: profiles and blocks";
+const KINDS_TITLE: &str = "EI13: kinds of evidence";
+const AGREEING_TITLE: &str = "EI13 beside EB13";
 const ITEM_ROW: &str = "| Item | Bytes | Name | Rules, each with what is told when it is broken |";
 
 /// The rules of every record, as docs/ITEMS.md has them.
@@ -357,7 +581,8 @@ fn documented(text: &str) -> Records {
             if !TEXTS.contains(&title) {
                 let (of, what) =
                     title.split_once(": ").unwrap_or_else(|| panic!("not understood: {title}"));
-                (kinds, role) = (of.split(" and ").collect(), what);
+                role = what;
+                kinds = if of == "EI13" { PROFILES.to_vec() } else { of.split(" and ").collect() };
             }
             for kind in &kinds {
                 let key = (kind.to_string(), role.to_string());
@@ -371,6 +596,48 @@ fn documented(text: &str) -> Records {
         }
     }
     records
+}
+
+/// The rows of the first table below a title, without the row of its head.
+fn rows_below<'a>(text: &'a str, title: &str) -> Vec<Vec<&'a str>> {
+    let below = text.lines().skip_while(|line| line.strip_prefix("## ") != Some(title)).skip(1);
+    let table = below.skip_while(|line| !line.starts_with('|')).take_while(|line| line.starts_with('|'));
+    let rows: Vec<&str> = table.filter(|line| !line.starts_with("|-")).collect();
+    assert!(!rows.is_empty(), "no table below {title}");
+    rows[1..].iter().map(|row| cells(row)).collect()
+}
+
+/// A number with commas.
+fn many(cell: &str) -> u64 {
+    cell.replace(',', "").parse().unwrap_or_else(|_| panic!("no number: {cell}"))
+}
+
+/// The kinds of evidence, as docs/ITEMS.md has them.
+fn documented_kinds(text: &str) -> Vec<EvidenceKind> {
+    let row = |row: Vec<&str>| {
+        let [kind, name, extensions, most] = row[..] else { panic!("not four cells: {row:?}") };
+        assert!(name.contains(" (") && name.ends_with(')'), "a name in English (and in Korean): {name}");
+        (kind.to_string(), extensions.split(", ").map(str::to_string).collect(), many(most))
+    };
+    rows_below(text, KINDS_TITLE).into_iter().map(row).collect()
+}
+
+/// Lengths of evidence with their blocks and the filler, as docs/ITEMS.md has them.
+fn documented_blocks(text: &str) -> Vec<(u64, (u64, u64))> {
+    let row = |row: Vec<&str>| {
+        let [length, blocks, filler] = row[..] else { panic!("not three cells: {row:?}") };
+        (many(length), (many(blocks), many(filler)))
+    };
+    rows_below(text, BLOCKS_TITLE).into_iter().map(row).collect()
+}
+
+/// What a comparison asks, as docs/ITEMS.md has it.
+fn documented_agreeing(text: &str) -> Vec<Agreeing> {
+    let row = |row: Vec<&str>| {
+        let [_, enrolment, _, evidence, added] = row[..] else { panic!("not five cells: {row:?}") };
+        (bytes(enrolment), bytes(evidence), added.to_string())
+    };
+    rows_below(text, AGREEING_TITLE).into_iter().map(row).collect()
 }
 
 /// What the two say differently, record by record and rule by rule.
@@ -413,7 +680,8 @@ fn code_lists(codes: &str, records: &Records) -> Vec<(String, Vec<String>)> {
     let codes = Definitions::of(codes);
     assert_eq!(codes.only("tableCodes").1, ["bankCodes", "++", "centreCodes"], "who sets codes");
     let all = records.values().flatten().map(|rule| rule.told.clone());
-    let told: BTreeSet<String> = all.filter(|told| !told.starts_with("refusal ")).collect();
+    let is_code = |told: &String| !told.starts_with("refusal ") && told != NOTHING;
+    let told: BTreeSet<String> = all.filter(is_code).collect();
     vec![
         ("Set by banks".to_string(), codes.codes("bankCodes")),
         ("Set by the centre".to_string(), codes.codes("centreCodes")),
@@ -425,10 +693,20 @@ const TABLES: &str = "crates/tables/specs/Tables.antt";
 const TOTALS: &str = "crates/tables/specs/Totals.antt";
 const KINDS: &str = "crates/kinds/specs/Kinds.antt";
 
-/// The library's rules, were one of its three texts changed so.
+const EVIDENCE_ROWS: &str = "crates/evidence_rows/specs/Tables.antt";
+const EVIDENCE_KINDS: &str = "crates/evidence_kinds/specs/Evidence.antt";
+const EVIDENCE_BLOCKS: &str = "crates/evidence/specs/Blocks.antt";
+const EVIDENCE_JUDGED: &str = "crates/evidence/specs/Judged.antt";
+const EVIDENCE_READING: &str = "crates/evidence/specs/Reading.antt";
+const COMPARING: &str = "crates/consent/specs/Comparing.antt";
+
+fn definitions(path: &str) -> Definitions {
+    Definitions::of(&text(path))
+}
+
+/// The library's rules, were one of its texts changed so.
 fn library_with(path: &str, change: impl Fn(String) -> String) -> Records {
-    let read = |of: &str| if of == path { change(text(of)) } else { text(of) };
-    library(&read(TABLES), &read(TOTALS), &read(KINDS))
+    library(&|of| if of == path { Definitions::of(&change(text(of))) } else { definitions(of) })
 }
 
 fn library_as_it_is() -> Records {
@@ -445,8 +723,22 @@ fn changed(text: &str, from: &str, to: &str) -> String {
 fn every_item_is_documented_as_it_is() {
     let library = library_as_it_is();
     let found: usize = library.values().map(Vec::len).sum();
-    assert!(library.len() >= 12 && found >= 169, "only {} records with {found} rules", library.len());
+    assert!(library.len() >= 18 && found >= 245, "only {} records with {found} rules", library.len());
     assert_eq!(differences(&library, &documented(&text("docs/ITEMS.md"))), Vec::<String>::new());
+}
+
+#[test]
+fn evidence_is_documented_as_it_is() {
+    let page = text("docs/ITEMS.md");
+    let kinds = evidence_kinds(&definitions(EVIDENCE_KINDS));
+    assert_eq!(kinds, documented_kinds(&page));
+    let lengths = documented_blocks(&page);
+    for (length, said) in &lengths {
+        assert_eq!(*said, blocks(&definitions(EVIDENCE_BLOCKS), *length), "the blocks of {length} bytes");
+    }
+    let shown = |length: u64| lengths.iter().any(|(of, _)| *of == length);
+    assert!([0, 905, 906].into_iter().chain(kinds.iter().map(|kind| kind.2)).all(shown), "{lengths:?}");
+    assert_eq!(agreeing(&definitions), documented_agreeing(&page));
 }
 
 #[test]
@@ -484,6 +776,14 @@ fn a_wrong_item_is_seen() {
     assert_eq!(seen("only digits (0088); not zero (0061)", "not zero (0061); only digits (0088)").len(), 2);
     // a whole record
     assert_eq!(seen("## EB22: trailer", "## EB23: trailer").len(), 2);
+    // evidence, of both profiles and of one
+    assert_eq!(seen("| 10 | 107 | kind of evidence", "| 10 | 108 | kind of evidence").len(), 2);
+    assert_eq!(seen("from there to the end of the block | filler", "120 | filler").len(), 2);
+    assert_eq!(seen("partly exempt: zero (0103)", "partly exempt: zero (0102)").len(), 1);
+    assert_eq!(
+        seen("the number of data blocks (refusal 6)", "the number of data records (refusal 6)").len(),
+        2
+    );
 }
 
 /// How many records the library and its page have otherwise, were one of the library's texts changed so.
@@ -540,6 +840,56 @@ fn a_changed_kind_is_seen() {
 fn new_kind(form: &str) -> String {
     let own = "abbrev pub ownEC21 : Own\nownEC21 = own 0x45433231 0\n";
     format!("{own}abbrev pub EC21 : Kind\nEC21 = kind {form} ownEC21\n")
+}
+
+/// A changed table of evidence is seen, in the records of both profiles or of one.
+#[test]
+fn a_changed_table_of_evidence_is_seen() {
+    assert_eq!(seen(EVIDENCE_ROWS, "row 7 75 3 digits c0088", "row 7 75 3 digits c0089"), 2);
+    assert_eq!(seen(EVIDENCE_ROWS, "row 9 98 8 LongDate c9998 ∷", ""), 2);
+    assert_eq!(seen(EVIDENCE_ROWS, "row 1 5 1 (only 0x32)", "row 1 5 1 (only 0x33)"), 6);
+    assert_eq!(seen(EVIDENCE_ROWS, "front 0x33", "front 0x34"), 2);
+    assert_eq!(seen(EVIDENCE_ROWS, "exemptRows = recordRows spaces", "exemptRows = recordRows zeros"), 1);
+    assert_eq!(seen(EVIDENCE_ROWS, "c0102 = 0x30313032", "c0102 = 0x30313035"), 2);
+    let (page, kinds) = (text("docs/ITEMS.md"), text(EVIDENCE_KINDS));
+    for (from, to) in [
+        ("signed = 10240", "signed = 5120"),
+        (
+            "allow large kind mp3 ∷ allow large kind wav ∷ allow large kind wma ∷ []",
+            "allow large kind mp3 ∷ []",
+        ),
+        ("txt = 0x7478742020", "txt = 0x7478747420"),
+        ("allow signed 0x32 der ∷", ""),
+        ("others 0x36", "others 0x37"),
+    ] {
+        let kinds = evidence_kinds(&Definitions::of(&changed(&kinds, from, to)));
+        assert_ne!(kinds, documented_kinds(&page), "{from}");
+    }
+    let smaller = changed(&page, "| der | 10,240 |", "| der | 5,120 |");
+    assert_ne!(evidence_kinds(&definitions(EVIDENCE_KINDS)), documented_kinds(&smaller));
+    let comparing = text(COMPARING);
+    for (from, to) in [("part 46 3 r", "part 47 3 r"), ("longDate (part 19 6 r)", "longDate (part 27 6 r)")]
+    {
+        let other = |of: &str| match of {
+            COMPARING => Definitions::of(&changed(&comparing, from, to)),
+            _ => definitions(of),
+        };
+        assert_ne!(agreeing(&other), documented_agreeing(&page), "{from}");
+    }
+}
+
+#[test]
+#[should_panic(expected = "not understood: lengthGood")]
+fn a_changed_length_of_evidence_is_noticed() {
+    library_with(EVIDENCE_JUDGED, |judged| {
+        changed(&judged, "leb length (mostOf kind)", "ltb length (mostOf kind)")
+    });
+}
+
+#[test]
+#[should_panic(expected = "not understood: countsTold")]
+fn a_changed_count_of_evidence_is_noticed() {
+    library_with(EVIDENCE_READING, |reading| changed(&reading, "says (part 43 7", "says (part 44 7"));
 }
 
 #[test]

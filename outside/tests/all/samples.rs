@@ -2,22 +2,49 @@
 
 use outside::chars::spaces;
 use outside::layout::{Kind, CENTRE_CODES};
-use outside::{gen, pair, proved, read};
+use outside::{
+    eight_of_part, evidence_compare, evidence_part, evidence_read, gen, pair, proved, read, EvidencePart,
+};
+use std::ffi::OsString;
 use std::path::{Path, PathBuf};
 use std::process::Command;
 
-/// One sample: its files, the kind or pair it is read as, and what is expected.
+/// One sample: its files, what they are read as, and what is expected.
 struct Sample {
     name: String,
     files: Files,
+    /// The kind or pair; of consent evidence the profile.
     number: u32,
     expected: String,
 }
 
 enum Files {
-    One(PathBuf, Vec<u8>),
+    One(Vec<u8>),
     Pair(Vec<u8>, Vec<u8>),
+    /// Consent evidence, EI13.
+    Evidence(Vec<u8>),
+    /// Enrolments, and the evidence for them.
+    Consent(Vec<u8>, Vec<u8>),
 }
+
+impl Files {
+    fn all(&self) -> Vec<&[u8]> {
+        match self {
+            Files::One(file) | Files::Evidence(file) => vec![file],
+            Files::Pair(one, other) | Files::Consent(one, other) => vec![one, other],
+        }
+    }
+}
+
+impl Sample {
+    /// Where one of its files is.
+    fn path(&self, ending: &str) -> PathBuf {
+        folder().join(format!("{}.{ending}", self.name))
+    }
+}
+
+const ORDINARY: u32 = 0;
+const EXEMPT: u32 = 1;
 
 fn folder() -> PathBuf {
     Path::new(env!("CARGO_MANIFEST_DIR")).join("samples")
@@ -32,24 +59,32 @@ fn samples() -> Vec<Sample> {
     let texts: Vec<&PathBuf> =
         paths.iter().filter(|path| path.extension().is_some_and(|end| end == "txt")).collect();
     let samples: Vec<Sample> = texts.into_iter().map(|text| sample(text)).collect();
-    let files: usize =
-        samples.iter().map(|sample| if matches!(sample.files, Files::One(..)) { 2 } else { 3 }).sum();
+    let files: usize = samples.iter().map(|sample| sample.files.all().len() + 1).sum();
     assert_eq!(paths.len(), files + 1, "each sample has its files and a text; README.md is the only other");
     samples
 }
 
 fn sample(text: &Path) -> Sample {
-    let bytes = |extension: &str| std::fs::read(text.with_extension(extension));
+    let bytes = |ending: &str| std::fs::read(text.with_extension(ending)).expect("its files");
+    let is_there = |ending: &str| text.with_extension(ending).is_file();
     let line = std::fs::read_to_string(text).expect("a text");
-    let (kind, expected) = line.strip_suffix('\n').and_then(|line| line.split_once(' ')).expect("one line");
-    let files = match bytes("file") {
-        Ok(file) => Files::One(text.with_extension("file"), file),
-        Err(_) => Files::Pair(bytes("request").expect("a request"), bytes("result").expect("a result")),
+    let (word, expected) = line.strip_suffix('\n').and_then(|line| line.split_once(' ')).expect("one line");
+    let profile = match word {
+        "EI13" => Some(ORDINARY),
+        "EI13-exempt" => Some(EXEMPT),
+        _ => None,
     };
+    let files = match profile {
+        Some(_) if is_there("file") => Files::Evidence(bytes("file")),
+        Some(_) => Files::Consent(bytes("enrolments"), bytes("evidence")),
+        None if is_there("file") => Files::One(bytes("file")),
+        None => Files::Pair(bytes("request"), bytes("result")),
+    };
+    let kind = || u32::from_be_bytes(word.as_bytes().try_into().expect("four letters"));
     Sample {
         name: text.file_stem().expect("a name").to_string_lossy().into_owned(),
         files,
-        number: u32::from_be_bytes(kind.as_bytes().try_into().expect("four letters")),
+        number: profile.unwrap_or_else(kind),
         expected: expected.to_string(),
     }
 }
@@ -70,11 +105,50 @@ fn line(five: [u64; 5], lists: Option<[Vec<u64>; 2]>) -> String {
     }
 }
 
+/// The line of a file of evidence; an accepted one has the first byte and the length of each evidence.
+fn evidence_line(five: [u64; 5], part: impl Fn(u64) -> [u64; 8]) -> String {
+    let mut line = line(five, None);
+    // There is no record 0, and none of a file that is refused.
+    let case = if five[1] == 0 { 2 } else { 0 };
+    assert_eq!(part(0)[5..], [case, 0, 0]);
+    for record in 1.. {
+        match part(record) {
+            [side, number, place, item, code, 1, first, length] => {
+                assert_eq!([side, number, place, item, code], five);
+                line += &format!(" {first}+{length}");
+            }
+            none => {
+                assert_eq!((&none[..5], &none[5..]), (&five[..], &[case, 0, 0][..]));
+                break;
+            }
+        }
+    }
+    line
+}
+
 /// What the reference and the library say.
 fn said(sample: &Sample) -> [String; 2] {
     match &sample.files {
-        Files::One(_, file) => {
+        Files::One(file) => {
             [line(read(sample.number, file).five(), None), line(proved::read(sample.number, file), None)]
+        }
+        Files::Evidence(file) => {
+            let profile = sample.number;
+            let ours = |record: u64| {
+                let (answer, part) = evidence_part(profile, file, record);
+                eight_of_part(&answer, &part)
+            };
+            let theirs = |record: u64| proved::evidence_part(profile, file, record);
+            [
+                evidence_line(evidence_read(profile, file).five(), ours),
+                evidence_line(proved::evidence_read(profile, file), theirs),
+            ]
+        }
+        Files::Consent(enrolments, evidence) => {
+            let profile = sample.number;
+            let ours = evidence_compare(profile, enrolments, evidence).five();
+            let theirs = proved::evidence_compare(profile, enrolments, evidence);
+            [line(ours, None), line(theirs, None)]
         }
         Files::Pair(request, result) => {
             let length = Kind::known(sample.number).map_or(150, Kind::record_length);
@@ -98,12 +172,30 @@ fn both_say_what_is_expected() {
     }
 }
 
+/// The page has a row for each sample, with its line.
+#[test]
+fn every_sample_is_on_the_page() {
+    let page = std::fs::read_to_string(folder().join("README.md")).expect("a page");
+    let rows = page.lines().filter(|line| line.starts_with("| `")).count();
+    let samples = samples();
+    assert_eq!(rows, samples.len());
+    for sample in &samples {
+        let line = std::fs::read_to_string(sample.path("txt")).expect("a text");
+        let row = format!("\n| `{}` | {} | ", sample.name, line.trim_end());
+        assert!(page.contains(&row), "no row as this: {row}");
+    }
+}
+
 /// Every number and every code that a file or pair by itself can be refused with, and each kind accepted.
 #[test]
 fn the_samples_are_many_enough() {
     let samples = samples();
     let any = |pair: bool, test: &dyn Fn(&Sample) -> bool| {
-        samples.iter().any(|sample| matches!(sample.files, Files::Pair(..)) == pair && test(sample))
+        samples.iter().any(|sample| match sample.files {
+            Files::One(..) => !pair && test(sample),
+            Files::Pair(..) => pair && test(sample),
+            Files::Evidence(..) | Files::Consent(..) => false,
+        })
     };
     for kind in Kind::ALL {
         let accepted = any(false, &|s| s.number == kind.number() && s.expected == "accepted");
@@ -128,15 +220,43 @@ fn the_samples_are_many_enough() {
     }
 }
 
+/// The same of consent evidence, by itself and beside enrolments, for each profile.
+#[test]
+fn the_samples_of_evidence_are_many_enough() {
+    let samples = samples();
+    let any = |compared: bool, profile: u32, start: &str| {
+        let of = |files: &Files| match files {
+            Files::Evidence(..) => !compared,
+            Files::Consent(..) => compared,
+            Files::One(..) | Files::Pair(..) => false,
+        };
+        let found =
+            samples.iter().any(|s| of(&s.files) && s.number == profile && s.expected.starts_with(start));
+        assert!(found, "compared: {compared}, profile {profile}: no sample is told {start}");
+    };
+    for profile in [ORDINARY, EXEMPT] {
+        any(false, profile, "accepted");
+        any(true, profile, "accepted");
+    }
+    for told in
+        ["2 0 0", "4 1 2 0081", "4 1 9 9998", "4 1 10 0101", "4 1 11 0102", "4 1 12 0103", "4 1 14 0089"]
+    {
+        any(false, ORDINARY, &format!("refused 0 {told}"));
+    }
+    for told in ["5 2 5", "6 0 6", "6 3 6", "7 3 6"] {
+        any(false, ORDINARY, &format!("refused 0 {told} 0000"));
+    }
+    for told in ["1 2 0 0", "2 2 0 0", "0 12 0 3", "0 12 0 5", "0 20 3 6", "0 21 2 6"] {
+        any(true, ORDINARY, &format!("refused {told} 0000"));
+    }
+}
+
 /// What the rules leave open today is chosen so that a stricter reading would not refuse it.
 #[test]
 fn the_samples_keep_stricter_rules_too() {
-    let mut seen = [0, 0];
+    let mut seen = [0, 0, 0];
     for sample in samples() {
-        let files = match sample.files {
-            Files::One(_, file) => vec![file],
-            Files::Pair(request, result) => vec![request, result],
-        };
+        let files = sample.files.all();
         for file in files.iter().filter(|file| file.len() >= 300 && file.len() % 150 == 0) {
             let (data, trailer) = file[150..].split_at(file.len() - 300);
             for record in data.chunks(150).filter(|_| file.starts_with(b"H") && &file[19..23] == b"EB21") {
@@ -159,8 +279,24 @@ fn the_samples_keep_stricter_rules_too() {
                 seen[1] += 1;
             }
         }
+        if let Files::Evidence(file) | Files::Consent(_, file) = &sample.files {
+            for kind in kinds_of_evidence(sample.number, file) {
+                assert_ne!(kind, b'2', "evidence of {} that is not signed", sample.name);
+                seen[2] += 1;
+            }
+        }
     }
-    assert!(seen[0] > 20 && seen[1] > 10, "{seen:?}");
+    assert!(seen[0] > 20 && seen[1] > 10 && seen[2] > 10, "{seen:?}");
+}
+
+/// Item 10 of every record of an accepted file that has evidence.
+fn kinds_of_evidence(profile: u32, file: &[u8]) -> Vec<u8> {
+    let parts = (1..).map(|record| evidence_part(profile, file, record).1);
+    let parts = parts.map_while(|part| match part {
+        EvidencePart::Part { start, length } => Some((start as usize, length)),
+        _ => None,
+    });
+    parts.filter(|(_, length)| *length > 0).map(|(start, _)| file[start - 13]).collect()
 }
 
 fn is_centre_code(code: &[u8]) -> bool {
@@ -184,21 +320,38 @@ fn the_example_in_c_says_the_same() {
         .expect("a C compiler named cc");
     assert!(compiled.success());
     for sample in samples() {
-        let Files::One(path, _) = &sample.files else { continue };
-        let kind = sample.number.to_be_bytes();
-        let run = Command::new(&example)
-            .arg(std::str::from_utf8(&kind).expect("letters"))
-            .arg(path)
-            .output()
-            .expect("the example runs");
-        assert_eq!(
-            String::from_utf8_lossy(&run.stdout),
-            format!("{}\n", sample.expected),
-            "{}",
-            sample.name
-        );
-        assert_eq!(run.status.code(), Some(i32::from(sample.expected != "accepted")));
+        let Some(words) = words(&sample) else { continue };
+        let run = Command::new(&example).args(words).output().expect("the example runs");
+        assert_eq!(String::from_utf8_lossy(&run.stdout), printed(&sample), "{}", sample.name);
+        let accepted = sample.expected.starts_with("accepted");
+        assert_eq!(run.status.code(), Some(i32::from(!accepted)), "{}", sample.name);
     }
+}
+
+/// What the example is told of a sample; it knows no pairs and only ordinary institutions.
+fn words(sample: &Sample) -> Option<Vec<OsString>> {
+    let of = |word: &str, ending: &str| [word.into(), sample.path(ending).into()];
+    match sample.files {
+        Files::One(_) => {
+            let kind = sample.number.to_be_bytes();
+            Some(of(std::str::from_utf8(&kind).expect("letters"), "file").to_vec())
+        }
+        Files::Evidence(_) if sample.number == ORDINARY => Some(of("EI13", "file").to_vec()),
+        Files::Consent(..) if sample.number == ORDINARY => {
+            Some([of("EB13", "enrolments"), of("EI13", "evidence")].concat())
+        }
+        _ => None,
+    }
+}
+
+/// What the example prints: the line, and each evidence on a line of its own with its record's number.
+fn printed(sample: &Sample) -> String {
+    if !sample.expected.starts_with("accepted") {
+        return format!("{}\n", sample.expected);
+    }
+    let parts = sample.expected.split(' ').enumerate().skip(1);
+    let lines = parts.map(|(record, part)| format!("{record} {}\n", part.replace('+', " ")));
+    "accepted\n".to_string() + &lines.collect::<String>()
 }
 
 /// The header by itself, in both languages that it is for, and the programs in C, whatever the machine.

@@ -1,6 +1,7 @@
 //! How much stack the library needs: every function of the C face, called on a painted stack with the largest inputs,
 //! good ones and ones whose fault is found last, touches no more than include/cms.h says.
 
+use super::stack_evidence;
 use crate::common::put;
 use outside::bridge::{ask, Call};
 use outside::gen::{self, Draft, Rng};
@@ -13,11 +14,11 @@ const MOST: u64 = 65_536;
 const SAID: &str = "No function needs more than 64 KB of stack.";
 
 /// A call, and what it must return so that its input is what it is called.
-struct Case {
-    function: &'static str,
-    input: String,
-    returned: u64,
-    call: Call,
+pub(super) struct Case {
+    pub(super) function: &'static str,
+    pub(super) input: String,
+    pub(super) returned: u64,
+    pub(super) call: Call,
 }
 
 /// A good request of so many records, and a good result with as many.
@@ -205,6 +206,7 @@ fn all_cases() -> Vec<Case> {
         cases.extend(of_writing(pair.request(), &request));
         cases.extend(of_two_files(pair, &request, &result));
     }
+    cases.extend(stack_evidence::all_cases(&mut rng));
     cases
 }
 
@@ -225,7 +227,7 @@ fn no_function_needs_more_stack_than_the_header_says() {
         let (said, touched) = painted.and_touched();
         assert_eq!(said.returned, returned, "{function}, {input}");
         assert!(said == plain, "{function}, {input}: another answer on another stack");
-        println!("{function:11} {touched:6} {input}");
+        println!("{function:20} {touched:6} {input}");
         let most = deepest.entry(function).or_default();
         if touched > most.0 {
             *most = (touched, input);
@@ -233,7 +235,7 @@ fn no_function_needs_more_stack_than_the_header_says() {
     }
     println!("\nthe most of each:");
     for (function, (touched, input)) in &deepest {
-        println!("{function:11} {touched:6} {input}");
+        println!("{function:20} {touched:6} {input}");
     }
     let header = include_str!("../../../include/cms.h");
     assert!(header.contains(SAID), "include/cms.h does not say: {SAID}");

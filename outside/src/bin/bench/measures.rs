@@ -2,20 +2,24 @@
 //!
 //! The three take turns, so that whatever else the machine does falls on all; of each the shortest turn counts.
 
-use outside::gen::{self, Draft, Rng};
+use outside::evidence::layout::MOST_BLOCKS;
+use outside::gen::{self, Draft, EvidenceDraft, Rng};
 use outside::layout::{Kind, PairKind};
-use outside::proved::Parts;
-use outside::{linked, pair, read, write};
+use outside::proved::{EvidenceParts, Parts};
+use outside::{evidence_read, evidence_write, linked, pair, read, six, write};
 use std::hint::black_box;
 use std::time::{Duration, Instant};
 
 const SIZES: [usize; 3] = [10, 100, 430];
+/// Records of a file of evidence, which has 4 MB whatever they are.
+const EVIDENCE_SIZES: [usize; 3] = [14, 100, 430];
 const TURNS: usize = 40;
 const TURN: Duration = Duration::from_millis(4);
 
 /// One thing that is measured: for a size, the seconds of a call by library, reference and checksum.
 struct Case {
     name: &'static str,
+    sizes: [usize; 3],
     measure: fn(&mut Rng, usize) -> [f64; 3],
 }
 
@@ -29,17 +33,19 @@ pub fn print() {
         "", "records", "library", "reference", "checksum", "lib/reference", "lib/checksum", "lib ns/record"
     );
     let cases = [
-        Case { name: "read EB21", measure: |rng, n| reading(rng, Kind::EB21, n) },
-        Case { name: "read EB13", measure: |rng, n| reading(rng, Kind::EB13, n) },
-        Case { name: "write EB21", measure: writing },
-        Case { name: "pair debit", measure: pairing },
+        Case { name: "read EB21", sizes: SIZES, measure: |rng, n| reading(rng, Kind::EB21, n) },
+        Case { name: "read EB13", sizes: SIZES, measure: |rng, n| reading(rng, Kind::EB13, n) },
+        Case { name: "write EB21", sizes: SIZES, measure: writing },
+        Case { name: "pair debit", sizes: SIZES, measure: pairing },
+        Case { name: "read EI13", sizes: EVIDENCE_SIZES, measure: reading_evidence },
+        Case { name: "write EI13", sizes: EVIDENCE_SIZES, measure: writing_evidence },
     ];
     for case in cases {
         let mut rng = Rng::new(1);
-        let times = SIZES.map(|n| (case.measure)(&mut rng, n));
-        for (n, [library, reference, checksum]) in SIZES.iter().zip(times) {
+        let times = case.sizes.map(|n| (case.measure)(&mut rng, n));
+        for (n, [library, reference, checksum]) in case.sizes.iter().zip(times) {
             println!(
-                "{:<12}{n:>8}{:>10.2}{:>10.2}{:>10.2}{:>14.2}{:>13.1}{:>16.0}",
+                "{:<12}{n:>8}{:>10.2}{:>10.2}{:>10.2}{:>14.2}{:>13.2}{:>16.0}",
                 case.name,
                 library * 1e6,
                 reference * 1e6,
@@ -48,6 +54,9 @@ pub fn print() {
                 library / checksum,
                 library * 1e9 / *n as f64,
             );
+        }
+        if case.sizes != SIZES {
+            continue;
         }
         for who in 0..2 {
             let name = ["library", "reference"][who];
@@ -130,6 +139,43 @@ fn pairing(rng: &mut Rng, n: usize) -> [f64; 3] {
         &mut || linked::pair(kind, black_box(&request), &result, &mut taken, &mut not_taken)[1],
         &mut || pair(kind, black_box(&request), &result, &mut ones, &mut others).number,
         &mut || checksum(black_box(&request)) ^ checksum(black_box(&result)),
+    ])
+}
+
+/// A good file of evidence with as many blocks as there may be, and payers numbered one after another.
+fn evidence_of(rng: &mut Rng, n: usize) -> EvidenceDraft {
+    let mut draft = gen::evidence_of_blocks(rng, MOST_BLOCKS, n);
+    for (before, given) in draft.records.iter_mut().enumerate() {
+        given.put(6, format!("{:<30}", 2_024_000_001 + before).as_bytes());
+    }
+    draft
+}
+
+fn reading_evidence(rng: &mut Rng, n: usize) -> [f64; 3] {
+    let file = evidence_of(rng, n).file();
+    assert_eq!(linked::evidence_read(0, &file), evidence_read(0, &file).five());
+    assert_eq!(linked::evidence_read(0, &file)[1], 0);
+    in_turns([
+        &mut || linked::evidence_read(0, black_box(&file))[1],
+        &mut || evidence_read(0, black_box(&file)).number,
+        &mut || checksum(black_box(&file)),
+    ])
+}
+
+fn writing_evidence(rng: &mut Rng, n: usize) -> [f64; 3] {
+    let draft = evidence_of(rng, n);
+    let (file, records) = (draft.file(), draft.given());
+    let EvidenceDraft { date, code, .. } = &draft;
+    let parts = EvidenceParts { date, code, records: &records };
+    let (mut room, mut other) = (vec![0; file.len()], vec![0; file.len()]);
+    let told = linked::evidence_write(0, &parts, &mut room);
+    let (answer, length) = evidence_write(0, date, code, &records, &mut other);
+    assert_eq!(told, six(&answer, length));
+    assert!(room == file && other == file);
+    in_turns([
+        &mut || linked::evidence_write(0, black_box(&parts), &mut room)[1],
+        &mut || evidence_write(0, date, code, black_box(&records), &mut other).0.number,
+        &mut || checksum(black_box(&file)),
     ])
 }
 

@@ -1,0 +1,2 @@
+-- The face for C.
+pub mod Profiles
