@@ -9,13 +9,12 @@ use native.Mathlib.Nat.{eq-or-lt-of-le}
 use native.Mathlib.Omega.{arith}
 use borrow.Author.Tests.{leb-true, eqb-true, lt-ltb}
 use lib.Dec.{leb, eqb}
-use lib.ListN.{length, getD, drop, List·getD-append}
+use lib.ListN.{length, getD}
 use Rattle.laws.specs.Least.{least}
 use Rattle.laws.specs.Part.{same}
-use Rattle.laws.specs.Tabulate.{tabulate}
 use Rattle.laws.proofs.Bools.{and-left, and-right}
 use Rattle.laws.proofs.Leasts.{least-none, least-some, some-true}
-use Rattle.laws.proofs.Tabs.{tab-at, tab-length, fill-start}
+use Rattle.laws.proofs.Tabs.{fill-start, fill-at}
 use Rattle.answers.specs.Answers.{accepted, refused, refusesAt, _then_}
 use Rattle.answers.proofs.Refusals.{number-of, refuses-not, refuses-is, then-first, then-second, then-zero, all-told}
 use Rattle.keys.specs.Keys.{sharesIn, repeatsIn}
@@ -115,9 +114,7 @@ module _ (exempt : Bool) (s : List ℕ) where
 
   pub place-at : (old : List ℕ) (i : ℕ) → i < goodIn exempt s → getD (placesOf exempt s old) i 0 ≡ byteOf s i
   unfolding placesOf
-  place-at old i l =
-      List·getD-append (tabulate (byteOf s) (goodIn exempt s)) (drop (goodIn exempt s) old) 0 i (rw (tab-length (byteOf s) (goodIn exempt s)) l) ∙
-      tab-at (byteOf s) (goodIn exempt s) i l
+  place-at old i l = fill-at (byteOf s) old (goodIn exempt s) i l
 
 -- every record's first block lies in the file
 pub first-inside : (s : List ℕ) (i : ℕ) → i < recordsIn s → byteOf s i + 1024 ≤ length s

@@ -4,13 +4,11 @@ use Prim.Native.Nat.{ℕ, _+_, _*_, _≤_, _<_}
 use mathlib.Core.List.{List}
 use mathlib.Core.Path.{_≡_, ap, _∙_}
 use native.Mathlib.Omega.{arith}
-use lib.Dec.{ltb}
 use lib.ListN.{length, getD}
-use Rattle.laws.specs.Least.{least, some}
-use Rattle.laws.proofs.Leasts.{least-same}
-use Rattle.keys.specs.Keys.{sharesIn, repeatsIn}
+use Rattle.laws.specs.Least.{least}
+use Rattle.keys.specs.Keys.{repeatsIn}
 use Rattle.keys.specs.Stands.{keyIn, Inside}
-use Rattle.keys.proofs.Spaced.{anywhere, listed-start, listed-key}
+use Rattle.keys.proofs.Spaced.{anywhere, listed-at, listed-inside, first-same}
 use Rattle.evidence.specs.Blocks.{block, blocksFor, blocksIn, lastBlock, lengthAt, nextOf, recordsIn}
 use Rattle.evidence.specs.Judged.{byteOf}
 use Rattle.evidence.specs.Reading.{keyOf, repeatTold, keysTold}
@@ -25,17 +23,13 @@ next-inside s b h l = omega (arith, block-inside s (b + blocksFor (lengthAt s b)
 module _ (s places : List ℕ) (n : ℕ) (holds : (i : ℕ) → i < n → getD places i 0 ≡ byteOf s i) where
   pub listed : (i : ℕ) → i < n → keyIn places (anywhere 45 61) s i ≡ keyOf s i
   unfolding keyOf
-  listed i h = listed-key places 45 61 s i ∙ rw (holds i h)
+  listed = listed-at places s 45 61 n (byteOf s) holds
 
   -- their keys lie inside
   pub keys-inside : ((i : ℕ) → i < n → byteOf s i + 1024 ≤ length s) → Inside places (anywhere 45 61) s n
-  keys-inside inside i h = rw (listed-start places 45 61 i, holds i h) (omega (arith, inside i h))
-
-  repeat-listed : (i : ℕ) → i < n → repeatsIn (keyIn places (anywhere 45 61) s) i ≡ repeatsIn (keyOf s) i
-  unfolding repeatsIn sharesIn some
-  repeat-listed i h = ap (λ (m : ℕ). ltb m i) (least-same _ _ i (λ j l. rw (listed i h, listed j (omega arith))))
+  keys-inside inside = listed-inside places s 45 61 n (byteOf s) holds (λ i h. omega (arith, inside i h))
 
   -- and the first that repeats tells of the file's
   pub keys-by : (i : ℕ) → n ≡ recordsIn s → i ≡ least (repeatsIn (keyIn places (anywhere 45 61) s)) n → repeatTold n i ≡ keysTold s
   unfolding keysTold
-  keys-by i all e = rw (← all) (ap (repeatTold n) (e ∙ least-same _ _ n repeat-listed))
+  keys-by i all e = rw (← all) (ap (repeatTold n) (e ∙ first-same _ _ n listed))

@@ -54,3 +54,6 @@ module _ (f : ℕ → ℕ) (old : List ℕ) where
   fill-more i v h e =
       rw (drop-cons old i 0 h, set-at (tabulate f i) (getD old i 0) (drop (suc i) old) v i (tab-length f i), e, add-one)
       (sym (append-assoc (tabulate f i) (f i ∷ []) (drop (suc i) old)))
+
+  pub fill-at : (n i : ℕ) → i < n → getD (tabulate f n ++ drop n old) i 0 ≡ f i
+  fill-at n i l = List·getD-append (tabulate f n) (drop n old) 0 i (rw (tab-length f n) l) ∙ tab-at f n i l
