@@ -1,8 +1,8 @@
 -- The laws of the first refusal among answers: the loop, and what it says of each.
 -- Assumes nothing.
 use Prim.Native.Nat.{ℕ, _+_, _<_}
-use mathlib.Core.Bool.{true, false}
-use mathlib.Core.Path.{_≡_, sym, _∙_, ap}
+use mathlib.Core.Bool.{Bool, true, false, cond}
+use mathlib.Core.Path.{_≡_, refl, sym, _∙_, ap}
 use mathlib.Core.Logic.{⊎-elim, _⊎_, inl, inr}
 use native.Mathlib.Nat.{le-refl, eq-or-lt-of-le}
 use native.Mathlib.Omega.{arith}
@@ -33,6 +33,11 @@ refuses-zero a f = eqb-true (a .number) 0 (not-false _ f)
 pub refuses-other : (a : Answer) → refuses a ≡ true → a .number ≡ 0 → ⊥
 unfolding refuses
 refuses-other a t = eqb-false (a .number) 0 (not-true _ t)
+
+-- a test that tells a refusal where it fails is good only where it holds
+pub tested : (t : Bool) (a : Answer) → (a .number ≡ 0 → ⊥) → cond t accepted a .number ≡ 0 → t ≡ true
+tested true a ne e = refl
+tested false a ne e = absurd (ne e)
 
 -- one answer after the other
 pub then-first : (a b : Answer) → (a .number ≡ 0 → ⊥) → (a then b) ≡ a

@@ -1,3 +1,4 @@
 -- What the treasurer is told.
 pub mod Answers
 pub mod Storing
+pub mod Lying

@@ -1,2 +1,3 @@
 // What the treasurer is told.
+pub mod lying;
 pub mod told;

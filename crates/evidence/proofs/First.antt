@@ -20,12 +20,13 @@ use Rattle.tables.specs.declared.row.Row.{Row}
 use Rattle.tables.specs.Rows.{blank}
 use Rattle.answers.specs.declared.told.Answer.{Answer}
 use Rattle.answers.specs.Answers.{accepted, refused, refusedAt, refuses, firstTold, _then_}
-use Rattle.answers.proofs.Refusals.{number-of, refuses-zero, refuses-other, then-first, then-second, told, First}
+use Rattle.answers.proofs.Refusals.{tested, number-of, refuses-zero, refuses-other, then-first, then-second, told, First}
 use Rattle.evidence_rows.specs.Tables.{headerRows, dataRows, trailerRows}
 use Rattle.layout.specs.Rules.{holds}
 use Rattle.layout.specs.Judging.{brokenAt, rowTells, judgeBy}
 use Rattle.layout.proofs.Judged.{row-good, row-bad, row-holds, judge-exact}
 use Rattle.keys.specs.Keys.{repeatsIn}
+use Rattle.keys.proofs.Distinct.{distinct-if}
 use Rattle.evidence.specs.Blocks.{block, front, mostBlocks, blocksIn, lastBlock, blockAt, lengthAt, kindAt, nextOf, startOf, recordsIn}
 use Rattle.evidence.specs.Judged.{noOwn, lengthGood, headerTold, itemsTold, lengthTold, fillerAt, fillerTold, blockTold, recordTold, recordsTold, trailerTold}
 use Rattle.evidence.specs.Reading.{isWhole, sizeTold, countTold, countsTold, keyOf, keysTold, readOf}
@@ -33,7 +34,7 @@ use Rattle.evidence.specs.Meets.{RowsHold}
 use Rattle.evidence.specs.Stages.{Sizes, Counts}
 use Rattle.evidence.specs.First.{Broken, Came, Met, Held, Closed, Says}
 use Rattle.evidence.proofs.Walks.{records-most}
-use Rattle.evidence.proofs.Stages.{tested, distinct-if, size-good, header-exact, trailer-exact, counts-good, count-good, block-good, records-good, good-keys, keys-bad}
+use Rattle.evidence.proofs.Stages.{size-good, header-exact, trailer-exact, counts-good, count-good, block-good, records-good, good-keys, keys-bad}
 use Rattle.evidence.proofs.Exact.{stages-meet}
 
 -- a refusal

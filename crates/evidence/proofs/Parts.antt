@@ -7,15 +7,17 @@ use mathlib.Core.Path.{_≡_, sym, ap}
 use mathlib.Core.Logic.{⊎-elim}
 use native.Mathlib.Nat.{le-refl, le-of-eq, le-of-lt, eq-or-lt-of-le}
 use native.Mathlib.Omega.{arith}
-use borrow.Author.Tests.{ltb-true, ltb-false, leb-true}
-use lib.Dec.{leb, ltb}
-use Rattle.laws.proofs.Bools.{and-left, and-right, either}
+use borrow.Author.Tests.{ltb-true, ltb-false}
+use lib.Dec.{ltb}
+use Rattle.laws.proofs.Bools.{either}
 use Rattle.answers.specs.Answers.{accepted, refuses}
 use Rattle.answers.proofs.Refusals.{refuses-zero}
 use Rattle.evidence.specs.Blocks.{block, front, lengthAt, nextOf, startOf, recordsIn, evidenceStart, evidenceLength}
 use Rattle.evidence.specs.Reading.{readOf}
-use Rattle.evidence.specs.declared.lying.Lies.the-variants.{From, Nowhere}
-use Rattle.evidence.specs.Lying.{isOne, liesIn, partOf, caseOf, firstOf, sizeOf}
+use Rattle.answers.specs.declared.lying.Lies.the-variants.{From, Nowhere}
+use Rattle.answers.specs.Lying.{isOne, caseOf, firstOf, sizeOf}
+use Rattle.answers.proofs.Lies.{one-true}
+use Rattle.evidence.specs.Lying.{liesIn, partOf}
 use Rattle.evidence.specs.Parts.{Covers, Inside, Shows}
 use Rattle.evidence.proofs.Walks.{blocks-enough, start-more, start-before, start-some}
 use Rattle.evidence.proofs.Stages.{read-good, good-read, stages-exact}
@@ -49,10 +51,6 @@ parts-apart s i j x a b =
     (λ f. ⊎-elim (λ t. absurd (start-behind s j i x (ltb-true j i t) b a)) (λ g. omega (arith, ltb-false)) (either (ltb j i)))
     (either (ltb i j))
 
-one-is : (k n : ℕ) → isOne k n ≡ true → (1 ≤ k) × (k ≤ n)
-unfolding isOne
-one-is k n t = (leb-true 1 k (and-left (leb 1 k) (leb k n) t), leb-true k n (and-right (leb 1 k) (leb k n) t))
-
 -- a part is shown only of an accepted file, and then it is the evidence of the record that was asked for
 pub part-shown : (exempt : Bool) (s : List ℕ) (k start size : ℕ) → partOf exempt s k .lies ≡ From start size → Shows exempt s k start size
 unfolding partOf liesIn
@@ -65,7 +63,7 @@ part-shown exempt s k start size e = ⊎-elim bad good (either (refuses (readOf 
     here f t =
         let a = good-read exempt s (read-good exempt s (refuses-zero (readOf exempt s) f)) in
         let p : From (evidenceStart s (k - 1)) (evidenceLength s (k - 1)) ≡ From start size = rw (f, t) at e in
-        let one = one-is k (recordsIn s) t in
+        let one = one-true k (recordsIn s) t in
         record { good = a; first = one .0; last = one .1; from = sym (ap firstOf p); long = sym (ap sizeOf p); inside = part-inside exempt s a (k - 1) (omega (arith, one .0, one .1)) }
 
     nowhere : refuses (readOf exempt s) ≡ false → isOne k (recordsIn s) ≡ false → Shows exempt s k start size

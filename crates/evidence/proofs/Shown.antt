@@ -5,23 +5,18 @@ use mathlib.Core.Bool.{Bool, true, false}
 use mathlib.Core.List.{List}
 use mathlib.Core.Path.{_≡_}
 use native.Mathlib.Omega.{arith}
-use borrow.Author.Tests.{leb-true}
-use lib.Dec.{leb}
 use lib.ListN.{getD}
-use Rattle.laws.proofs.Bools.{and-left, and-right}
+use Rattle.answers.specs.Lying.{isOne}
 use Rattle.answers.proofs.Refusals.{refuses-is, refuses-not}
-use Rattle.evidence.specs.declared.lying.Lies.the-variants.{Refused, From, Nowhere}
+use Rattle.answers.proofs.Lies.{one-true}
+use Rattle.answers.specs.declared.lying.Lies.the-variants.{Refused, From, Nowhere}
 use Rattle.evidence.specs.Blocks.{block, mostBlocks, blocksIn, startOf, evidenceStart, evidenceLength, recordsIn}
 use Rattle.evidence.specs.Judged.{byteOf}
 use Rattle.evidence.specs.Reading.{readOf, placesOf}
-use Rattle.evidence.specs.Lying.{isOne, liesIn, partOf}
+use Rattle.evidence.specs.Lying.{liesIn, partOf}
 use Rattle.kinds.specs.Kinds.{limit}
 use Rattle.evidence.proofs.Walks.{record-begins}
 use Rattle.evidence.proofs.Looked.{sizes-good, read-good, read-all, records-few, place-at}
-
-pub one-true : (k n : ℕ) → isOne k n ≡ true → (1 ≤ k) × (k ≤ n)
-unfolding isOne
-one-true k n t = (leb-true 1 k (and-left (leb 1 k) (leb k n) t), leb-true k n (and-right (leb 1 k) (leb k n) t))
 
 module _ (exempt : Bool) (s : List ℕ) (k : ℕ) where
   pub shown-refused : (readOf exempt s .number ≡ 0 → ⊥) → record { answer = readOf exempt s; lies = Refused } ≡ partOf exempt s k

@@ -1,80 +1,50 @@
 -- What each stage of reading says: size, header, records, trailer, counts, keys. Accepted is that each of them is good.
 -- Assumes nothing.
 use Prim.Native.Nat.{ℕ, _+_, _*_, _%_, _≤_, _<_}
-use mathlib.Core.Bool.{Bool, true, false, cond, _&&_}
+use mathlib.Core.Bool.{Bool, true, _&&_}
 use mathlib.Core.List.{List}
-use mathlib.Core.Path.{_≡_, refl, sym, _∙_}
+use mathlib.Core.Path.{_≡_, refl, _∙_}
 use mathlib.Core.Logic.{_↔_, ⊎-elim}
 use native.Mathlib.Nat.{eq-or-lt-of-le}
 use native.Mathlib.Omega.{arith}
-use borrow.Author.Tests.{eqb-true, leb-true, ltb-true, ltb-false, lt-ltb, le-ltb, eq-eqb, ne-eqb, le-leb}
-use lib.Dec.{eqb, leb, ltb}
+use borrow.Author.Tests.{eqb-true, leb-true, lt-ltb, le-ltb, eq-eqb, ne-eqb, le-leb}
+use lib.Dec.{eqb, leb}
 use lib.ListN.{length}
 use Rattle.laws.specs.Least.{least}
-use Rattle.laws.specs.Part.{part, same}
-use Rattle.laws.proofs.Bools.{and-left, and-right, either, clash}
-use Rattle.laws.proofs.Leasts.{least-is, least-none, least-before, some-true, some-false}
-use Rattle.laws.proofs.Parts.{same-equal, same-self}
+use Rattle.laws.specs.Part.{part}
+use Rattle.laws.proofs.Bools.{and-left, and-right, either}
+use Rattle.laws.proofs.Leasts.{least-is, least-none, least-before}
 use Rattle.text.specs.Characters.{spaces}
 use Rattle.kinds.specs.Kinds.{limit}
-use Rattle.answers.specs.declared.told.Answer.{Answer}
 use Rattle.answers.specs.Answers.{accepted, refused, refusedAt}
-use Rattle.answers.proofs.Refusals.{number-of, then-second, then-zero, all-told, told-all}
+use Rattle.answers.proofs.Refusals.{tested, number-of, then-second, then-zero, all-told, told-all}
 use Rattle.evidence_rows.specs.Tables.{headerRows, dataRows, trailerRows}
 use Rattle.layout.proofs.Judged.{judge-exact}
-use Rattle.keys.specs.Keys.{sharesIn, repeatsIn}
+use Rattle.keys.specs.Keys.{repeatsIn, Distinct}
+use Rattle.keys.proofs.Distinct.{distinct-if, repeat-none}
 use Rattle.evidence.specs.Blocks.{block, front, mostBlocks, blocksIn, lastBlock, blockAt, lengthAt, kindAt, nextOf, startOf, recordsIn}
 use Rattle.evidence.specs.Judged.{noOwn, lengthGood, headerTold, itemsTold, lengthTold, fillerAt, fillerTold, blockTold, recordTold, recordsTold, trailerTold}
 use Rattle.evidence.specs.Reading.{isWhole, sizeTold, countTold, countsTold, keyOf, repeatTold, keysTold, readOf}
-use Rattle.evidence.specs.Meets.{RowsHold, Distinct}
+use Rattle.evidence.specs.Meets.{RowsHold}
 use Rattle.evidence.specs.Stages.{Sizes, Good, Each, Counts, Stages}
 use Rattle.evidence.proofs.Walks.{records-most}
 
--- a test that tells a refusal where it fails is good only where it holds
-pub tested : (t : Bool) (a : Answer) → (a .number ≡ 0 → ⊥) → cond t accepted a .number ≡ 0 → t ≡ true
-tested true a ne e = refl
-tested false a ne e = absurd (ne e)
-
--- keys: none repeats exactly when all are distinct
-module _ (key : ℕ → List ℕ) where
-  repeat-if : (i j : ℕ) → j < i → key i ≡ key j → repeatsIn key i ≡ true
-  unfolding repeatsIn sharesIn
-  repeat-if i j h e = some-true (sharesIn key i) i j h (rw e (same-self (key j)))
-
-  pub distinct-if : (n : ℕ) → ((i : ℕ) → i < n → repeatsIn key i ≡ false) → Distinct key n
-  distinct-if n h i j a b e = ⊎-elim less (λ g. ⊎-elim more (λ f. omega (arith, ltb-false)) (either (ltb j i))) (either (ltb i j))
+-- what is told of n keys
+module _ (key : ℕ → List ℕ) (n : ℕ) where
+  pub repeat-good : repeatTold n (least (repeatsIn key) n) .number ≡ 0 → Distinct key n
+  unfolding repeatTold
+  repeat-good e = ⊎-elim (λ q. distinct-if key n (least-before (repeatsIn key) n q)) found (eq-or-lt-of-le (least-is (repeatsIn key) n .within))
     where
-      less : ltb i j ≡ true → i ≡ j
-      less t = absurd (clash (repeat-if j i (ltb-true i j t) (sym e)) (h j b))
+      found : least (repeatsIn key) n < n → Distinct key n
+      found h = absurd (let z : _≡_ {A = ℕ} 7 0 = rw (lt-ltb _ _ h) at e in omega arith)
 
-      more : ltb j i ≡ true → i ≡ j
-      more t = absurd (clash (repeat-if i j (ltb-true j i t) e) (h i a))
+  pub good-repeat : Distinct key n → repeatTold n (least (repeatsIn key) n) ≡ accepted
+  unfolding repeatTold
+  good-repeat d = rw (least-none (repeatsIn key) n (repeat-none key n d), le-ltb n n (omega arith))
 
-  pub repeat-none : (n : ℕ) → Distinct key n → (i : ℕ) → i < n → repeatsIn key i ≡ false
-  unfolding repeatsIn sharesIn
-  repeat-none n d i h = some-false (sharesIn key i) i (least-none (sharesIn key i) i other)
-    where
-      other : (j : ℕ) → j < i → same (key i) (key j) ≡ false
-      other j l =
-          ⊎-elim (λ t. absurd (let z : j ≡ i = d j i (omega arith) h (sym (same-equal _ _ t)) in omega arith)) (λ f. f)
-          (either (same (key i) (key j)))
-
-  -- what is told of n keys
-  module _ (n : ℕ) where
-    pub repeat-good : repeatTold n (least (repeatsIn key) n) .number ≡ 0 → Distinct key n
-    unfolding repeatTold
-    repeat-good e = ⊎-elim (λ q. distinct-if n (least-before (repeatsIn key) n q)) found (eq-or-lt-of-le (least-is (repeatsIn key) n .within))
-      where
-        found : least (repeatsIn key) n < n → Distinct key n
-        found h = absurd (let z : _≡_ {A = ℕ} 7 0 = rw (lt-ltb _ _ h) at e in omega arith)
-
-    pub good-repeat : Distinct key n → repeatTold n (least (repeatsIn key) n) ≡ accepted
-    unfolding repeatTold
-    good-repeat d = rw (least-none (repeatsIn key) n (repeat-none n d), le-ltb n n (omega arith))
-
-    pub bad-repeat : least (repeatsIn key) n < n → repeatTold n (least (repeatsIn key) n) ≡ refusedAt 7 (least (repeatsIn key) n + 1) 6 0x30303030
-    unfolding repeatTold
-    bad-repeat h = rw (lt-ltb _ _ h)
+  pub bad-repeat : least (repeatsIn key) n < n → repeatTold n (least (repeatsIn key) n) ≡ refusedAt 7 (least (repeatsIn key) n + 1) 6 0x30303030
+  unfolding repeatTold
+  bad-repeat h = rw (lt-ltb _ _ h)
 
 module _ (s : List ℕ) where
   -- the size

@@ -10,6 +10,7 @@ use Rattle.laws.specs.Sum.{sum}
 use Rattle.text.specs.Characters.{spaces}
 use Rattle.numbers.specs.Numbers.{valueOf, says}
 use Rattle.kinds.specs.Kinds.{limit}
+use Rattle.keys.specs.Keys.{Distinct}
 use Rattle.tables.specs.declared.row.Row.{Row}
 use Rattle.tables.specs.Rows.{blank}
 use Rattle.evidence_rows.specs.Tables.{headerRows, dataRows, trailerRows}
@@ -31,10 +32,6 @@ blocksTo entry n = sum (λ i. blocksOf (entry i)) n
 -- every row holds in record n
 abbrev pub RowsHold : List Row → List ℕ → List ℕ → ℕ → Type 0
 RowsHold rows rec header n = (j : ℕ) → j < length rows → holds noOwn rec header n (getD rows j blank) ≡ true
-
--- no two of n keys are the same
-abbrev pub Distinct : (ℕ → List ℕ) → ℕ → Type 0
-Distinct key n = (i j : ℕ) → i < n → j < n → key i ≡ key j → i ≡ j
 
 -- record n: whole blocks, items 1 to 12 by their rows, a length that is good for the kind, and spaces behind the evidence
 pub record Fits (exempt : Bool) (header rec : List ℕ) (n : ℕ) : Type 0 where

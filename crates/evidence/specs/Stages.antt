@@ -8,11 +8,12 @@ use Rattle.laws.specs.Part.{part}
 use Rattle.text.specs.Characters.{spaces}
 use Rattle.numbers.specs.Numbers.{says}
 use Rattle.kinds.specs.Kinds.{limit}
+use Rattle.keys.specs.Keys.{Distinct}
 use Rattle.evidence_rows.specs.Tables.{headerRows, dataRows, trailerRows}
 use Rattle.evidence.specs.Blocks.{block, front, mostBlocks, blocksIn, lastBlock, dataBlocks, blockAt, lengthAt, kindAt, nextOf, startOf, recordsIn}
 use Rattle.evidence.specs.Judged.{lengthGood, fillerAt}
 use Rattle.evidence.specs.Reading.{keyOf}
-use Rattle.evidence.specs.Meets.{RowsHold, Distinct}
+use Rattle.evidence.specs.Meets.{RowsHold}
 
 -- whole blocks, a header and a trailer at least, and not too many
 pub record Sizes (s : List ℕ) : Type 0 where

@@ -1,31 +1,19 @@
 // Where the evidence of a record lies.
 ghost use mathlib.Core.Path.{_≡_};
-ghost use Rattle.evidence.specs.Lying.{isOne, partOf};
+ghost use Rattle.evidence.specs.Lying.{partOf};
 use crate::blocks;
 use crate::blocks::BLOCK;
 use crate::blocks::FRONT;
 use crate::reading;
+use answers::lying;
+use answers::lying::Lies;
 use answers::told::Answer;
 use kinds::of_files::LIMIT;
-
-// The file is refused; the evidence begins at a byte of the file and is so long; or there is no record of that number.
-pub enum Lies {
-    Refused,
-    From(usize, usize),
-    Nowhere,
-}
 
 // What reading says, and where the evidence lies.
 pub struct Shown {
     pub answer: Answer,
     pub lies: Lies,
-}
-
-// There is such a record, of n.
-fn is_one(number: u64, n: u64) -> bool
-    ensures { λ r. ⌜ r ≡ isOne number n ⌝ }
-{
-    1 <= number && number <= n
 }
 
 // The evidence of a record of any bytes; records count from 1.
@@ -41,7 +29,7 @@ pub fn part(exempt: bool, file: &[u8], number: u64) -> Shown
             lies: Lies::Refused,
         };
     }
-    if is_one(number, looked.count as u64) {
+    if lying::is_one(number, looked.count as u64) {
         let start = places[(number - 1) as usize] as usize;
         let size = blocks::length(file, start / BLOCK);
         return Shown {

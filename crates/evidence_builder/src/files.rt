@@ -4,7 +4,6 @@ ghost use mathlib.Core.List.{_++_};
 ghost use Prim.Native.Nat.{_+_, _-_, _*_, _≤_, _<_};
 ghost use lib.ListN.{length};
 ghost use Rattle.laws.specs.Stored.{stored};
-ghost use Rattle.numbers.specs.Numbers.{digitsOf};
 ghost use Rattle.evidence.specs.Blocks.{block, front, blocksFor};
 ghost use Rattle.evidence_builder.specs.Files.{blanks, marks, institutionOf, headerBlock, recordFront, trailerBlock};
 use evidence::blocks;
@@ -26,7 +25,7 @@ const BOTH: usize = 15;
 const CODE: usize = 10;
 
 // The number that a trailer has.
-const LAST: usize = 9999999;
+const LAST: u64 = 9999999;
 
 // As many spaces.
 fn blanks(room: &mut [u8], at: usize, size: usize)
@@ -36,19 +35,6 @@ fn blanks(room: &mut [u8], at: usize, size: usize)
     let mut i = 0;
     while i < size {
         room[at + i] = b' ';
-        i += 1;
-    }
-}
-
-// The w digits of n.
-fn digits(room: &mut [u8], at: usize, w: usize, n: usize)
-    requires { ⌜ w < 1000 ⌝ }
-    requires { ⌜ at + w ≤ length (now room) ⌝ }
-    ensures { λ _. ⌜ now (room .exit) ≡ stored at (digitsOf w n) (now (room .entry)) ⌝ }
-{
-    let mut i = 0;
-    while i < w {
-        room[at + i] = base_ten::digit_at(n as u64, w, i);
         i += 1;
     }
 }
@@ -80,10 +66,10 @@ pub fn put_header(room: &mut [u8], date: &[u8], code: &[u8], n: usize)
     ensures { λ _. ⌜ now (room .exit) ≡ stored 0 (headerBlock (now (date .entry)) (now (code .entry)) n) (now (room .entry)) ⌝ }
 {
     marks(room, 0, b'1');
-    digits(room, MARKS, NUMBER, 0);
+    base_ten::put_digits(room, MARKS, NUMBER, 0);
     parts::put(room, BOTH, date);
     institution(room, 23, code);
-    digits(room, 43, NUMBER, n);
+    base_ten::put_digits(room, 43, NUMBER, n as u64);
     blanks(room, 50, 974);
 }
 
@@ -94,7 +80,7 @@ pub fn put_front(room: &mut [u8], at: usize, code: &[u8], n: usize)
     ensures { λ _. ⌜ now (room .exit) ≡ stored at (recordFront (now (code .entry)) n) (now (room .entry)) ⌝ }
 {
     marks(room, at, b'2');
-    digits(room, at + MARKS, NUMBER, n);
+    base_ten::put_digits(room, at + MARKS, NUMBER, n as u64);
     blanks(room, at + BOTH, CODE);
     institution(room, at + 25, code);
 }
@@ -120,9 +106,9 @@ pub fn put_trailer(room: &mut [u8], at: usize, code: &[u8], n: usize, blocks: us
     ensures { λ _. ⌜ now (room .exit) ≡ stored at (trailerBlock (now (code .entry)) n blocks) (now (room .entry)) ⌝ }
 {
     marks(room, at, b'3');
-    digits(room, at + MARKS, NUMBER, LAST);
+    base_ten::put_digits(room, at + MARKS, NUMBER, LAST);
     institution(room, at + BOTH, code);
-    digits(room, at + 35, NUMBER, n);
-    digits(room, at + 42, 10, blocks);
+    base_ten::put_digits(room, at + 35, NUMBER, n as u64);
+    base_ten::put_digits(room, at + 42, 10, blocks as u64);
     blanks(room, at + 52, 972);
 }

@@ -17,16 +17,15 @@ use Rattle.laws.proofs.Bools.{and-left, and-right}
 use Rattle.laws.proofs.Leasts.{least-is}
 use Rattle.laws.proofs.Sums.{sum-up}
 use Rattle.kinds.specs.Kinds.{limit}
-use Rattle.keys.specs.Keys.{repeatsIn}
+use Rattle.keys.specs.Keys.{repeatsIn, Distinct}
 use Rattle.answers.specs.declared.told.Answer.{Answer}
 use Rattle.answers.specs.Answers.{accepted, refused, refusedAt}
-use Rattle.answers.proofs.Refusals.{number-of, then-second, then-zero, all-told, told-all}
+use Rattle.answers.proofs.Refusals.{tested, number-of, then-second, then-zero, all-told, told-all}
 use Rattle.evidence_rows.specs.Tables.{headerRows, dataRows}
 use Rattle.layout.proofs.Judged.{judge-exact}
 use Rattle.evidence.specs.Blocks.{blocksFor, mostBlocks}
 use Rattle.evidence.specs.Judged.{noOwn, lengthGood}
-use Rattle.evidence.specs.Meets.{Distinct}
-use Rattle.evidence.proofs.Stages.{tested, repeat-good, good-repeat, bad-repeat}
+use Rattle.evidence.proofs.Stages.{repeat-good, good-repeat, bad-repeat}
 use Rattle.evidence_builder.specs.Units.{items, saidAt, sortAt, placeOf, saidBy, doneAt, unitsIn, blocksTo}
 use Rattle.evidence_builder.specs.Files.{headerBlock, recordFront}
 use Rattle.evidence_writer.specs.Writing.{partsTold, headerTold, itemsTold, lengthTold, evidenceTold, unitTold, recordTold, recordsTold, keyOf, keysTold, decided}

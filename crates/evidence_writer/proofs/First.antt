@@ -16,14 +16,14 @@ use Rattle.laws.proofs.Leasts.{least-is, least-before}
 use Rattle.kinds.specs.Kinds.{limit}
 use Rattle.answers.specs.declared.told.Answer.{Answer}
 use Rattle.answers.specs.Answers.{accepted, refused, firstTold, _then_}
-use Rattle.answers.proofs.Refusals.{number-of, then-second, told, First}
+use Rattle.answers.proofs.Refusals.{tested, number-of, then-second, told, First}
 use Rattle.evidence_rows.specs.Tables.{headerRows, dataRows}
 use Rattle.layout.proofs.Judged.{judge-exact}
 use Rattle.keys.specs.Keys.{repeatsIn}
+use Rattle.keys.proofs.Distinct.{distinct-if}
 use Rattle.evidence.specs.Blocks.{blocksFor, mostBlocks}
 use Rattle.evidence.specs.Judged.{noOwn, lengthGood}
 use Rattle.evidence.specs.Meets.{RowsHold}
-use Rattle.evidence.proofs.Stages.{tested, distinct-if}
 use Rattle.evidence.proofs.First.{Bad, then-says, test-says, rows-say}
 use Rattle.evidence_builder.specs.Units.{items, saidAt, sortAt, placeOf, saidBy, unitsIn, blocksTo}
 use Rattle.evidence_builder.specs.Files.{fileOf}

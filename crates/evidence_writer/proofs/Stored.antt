@@ -2,16 +2,17 @@
 -- Assumes nothing.
 use Prim.Native.Nat.{ℕ, _+_, _*_, _≤_, _<_, zero-le}
 use mathlib.Core.Bool.{Bool}
-use mathlib.Core.List.{List, [], _++_, append-nil}
+use mathlib.Core.List.{List, _++_}
 use mathlib.Core.Path.{_≡_, refl, sym, _∙_, ap}
-use native.Mathlib.Nat.{zero-add, add-zero, le-of-eq}
+use native.Mathlib.Nat.{zero-add}
 use native.Mathlib.Omega.{arith}
 use borrow.Author.Tests.{le-leb, lt-leb}
-use lib.ListN.{length, length-append, drop-of-length-le, take-append-drop}
+use lib.ListN.{length, length-append}
 use Rattle.laws.specs.Joined.{joined}
 use Rattle.laws.specs.Part.{part}
 use Rattle.laws.specs.Stored.{stored}
 use Rattle.laws.proofs.Parts.{part-length}
+use Rattle.laws.proofs.Stores.{stored-then, stored-all}
 use Rattle.answers.specs.declared.told.Answer.{Answer}
 use Rattle.answers.specs.declared.told.Stored.{Stored}
 use Rattle.answers.specs.Answers.{accepted, refused}
@@ -20,17 +21,10 @@ use Rattle.answers.proofs.Refusals.{refuses-is, refuses-not, then-first, then-s
 use Rattle.evidence.specs.Blocks.{block}
 use Rattle.evidence_builder.specs.Units.{items, unitsIn, blocksTo}
 use Rattle.evidence_builder.specs.Files.{headerBlock, recordFront, recordOf, trailerBlock, fileOf}
-use Rattle.evidence_builder.proofs.Written.{stored-then, front-length}
+use Rattle.evidence_builder.proofs.Written.{front-length}
 use Rattle.evidence_writer.specs.Writing.{decided, writeTold, writeStored, writeOf, writeAfter}
 use Rattle.evidence_writer.specs.Given.{Given}
 use Rattle.evidence_writer.proofs.Built.{header-long, records-long, given-whole}
-
--- nothing stored, and as much as there is
-pub stored-none : (at : ℕ) (old : List ℕ) → old ≡ stored at [] old
-stored-none at old = rw (append-nil, add-zero at) (sym (take-append-drop at old))
-
-stored-all : (x old : List ℕ) → length x ≡ length old → stored 0 x old ≡ x
-stored-all x old e = rw (zero-add (length x), drop-of-length-le old {i = length x} (le-of-eq (sym e))) (append-nil x)
 
 -- a header fills its block
 pub header-stored :

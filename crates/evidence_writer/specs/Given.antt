@@ -6,10 +6,11 @@ use mathlib.Core.Path.{_≡_}
 use lib.ListN.{length}
 use Rattle.laws.specs.Part.{part}
 use Rattle.kinds.specs.Kinds.{limit}
+use Rattle.keys.specs.Keys.{Distinct}
 use Rattle.evidence_rows.specs.Tables.{headerRows, dataRows}
 use Rattle.evidence.specs.Blocks.{mostBlocks}
 use Rattle.evidence.specs.Judged.{lengthGood}
-use Rattle.evidence.specs.Meets.{RowsHold, Distinct}
+use Rattle.evidence.specs.Meets.{RowsHold}
 use Rattle.evidence_builder.specs.Units.{items, sortAt, placeOf, saidBy, unitsIn, blocksTo}
 use Rattle.evidence_builder.specs.Files.{headerBlock, recordFront}
 use Rattle.evidence_writer.specs.Writing.{keyOf}

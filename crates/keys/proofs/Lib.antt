@@ -5,3 +5,4 @@ pub mod Starts
 pub mod Found
 pub mod Spaced
 pub mod Steps
+pub mod Distinct

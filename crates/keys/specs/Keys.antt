@@ -1,7 +1,8 @@
 -- Keys by their numbers from 0 on: `key i` are the bytes of key i. Which repeats an earlier one, and where one stands among them.
-use Prim.Native.Nat.{ℕ}
+use Prim.Native.Nat.{ℕ, _<_}
 use mathlib.Core.Bool.{Bool, cond}
 use mathlib.Core.List.{List}
+use mathlib.Core.Path.{_≡_}
 use lib.Dec.{ltb}
 use Rattle.laws.specs.Least.{least, some}
 use Rattle.laws.specs.Part.{same}
@@ -13,6 +14,10 @@ sharesIn key i j = same (key i) (key j)
 
 unfoldable pub repeatsIn : (ℕ → List ℕ) → ℕ → Bool
 repeatsIn key i = some (sharesIn key i) i
+
+-- no two of n keys are the same
+abbrev pub Distinct : (ℕ → List ℕ) → ℕ → Type 0
+Distinct key n = (i j : ℕ) → i < n → j < n → key i ≡ key j → i ≡ j
 
 -- the first of n keys that is this one; n where none is
 unfoldable pub hasKeyIn : (ℕ → List ℕ) → List ℕ → ℕ → Bool

@@ -1,11 +1,12 @@
 -- The laws of `stored`.
 -- Assumes nothing.
-use Prim.Native.Nat.{ℕ, _+_, _-_, _≤_}
+use Prim.Native.Nat.{ℕ, _+_, _-_, _≤_, _<_}
 use mathlib.Core.List.{List, [], _++_, append-assoc, append-nil}
 use mathlib.Core.Path.{_≡_, sym, _∙_}
-use native.Mathlib.Nat.{le-refl, add-assoc}
-use lib.ListN.{length, take, drop, length-append, length-drop, drop-of-length-le}
-use lib.Seq.{take-length, take-at, drop-append-add, drop-drop, length-take-le}
+use native.Mathlib.Nat.{le-refl, le-of-eq, add-assoc, zero-add, add-zero}
+use native.Mathlib.Numerals.{add-one}
+use lib.ListN.{length, getD, set, take, drop, length-append, length-drop, drop-of-length-le, take-append-drop}
+use lib.Seq.{paste, paste-suc, take-length, take-at, drop-append-add, drop-drop, length-take-le}
 use Rattle.laws.specs.Stored.{stored}
 use Rattle.laws.proofs.Parts.{rest}
 
@@ -37,3 +38,25 @@ module _ (at : ℕ) (x old : List ℕ) (fits : at ≤ length old) where
         ← add-assoc at (length x) (length y),
         append-assoc (take at old) x y,
       )
+
+-- one piece behind the other
+pub stored-then :
+    (at p : ℕ) (x y old new last : List ℕ) → new ≡ stored at x old → last ≡ stored p y new → p ≡ at + length x → at ≤ length old →
+    last ≡ stored at (x ++ y) old
+stored-then at p x y old new last a b e fits = b ∙ rw (a, e) (stored-next at x old fits y)
+
+-- nothing stored, and as much as there is
+pub stored-none : (at : ℕ) (old : List ℕ) → old ≡ stored at [] old
+stored-none at old = rw (append-nil, add-zero at) (sym (take-append-drop at old))
+
+pub stored-all : (x old : List ℕ) → length x ≡ length old → stored 0 x old ≡ x
+stored-all x old e = rw (zero-add (length x), drop-of-length-le old {i = length x} (le-of-eq (sym e))) (append-nil x)
+
+-- a loop that stores the bytes of x, one after the other
+pub paste-more :
+    (old x text : List ℕ) (at i v : ℕ) → text ≡ paste old at x i → v ≡ getD x i 0 → at + i < length old → i < length x →
+    set text (at + i) v ≡ paste old at x (i + 1)
+paste-more old x text at i v e q fits inside = rw (e, q, add-one) (paste-suc old at x i 0 fits inside)
+
+pub paste-all : (old x text : List ℕ) (at i : ℕ) → text ≡ paste old at x i → length x ≡ i → text ≡ stored at x old
+paste-all old x text at i e l = e ∙ rw (← l, take-length x)

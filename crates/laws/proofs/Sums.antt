@@ -22,10 +22,10 @@ unfolding sum
 sum-more f i = rw add-one
 
 -- n numbers of at most b sum to at most n * b
-pub sum-bound : (f : ℕ → ℕ) (b n : ℕ) → ((k : ℕ) → f k ≤ b) → sum f n ≤ n * b
+pub sum-bound : (f : ℕ → ℕ) (b n : ℕ) → ((k : ℕ) → k < n → f k ≤ b) → sum f n ≤ n * b
 unfolding sum
 sum-bound f b zero h = omega arith
-sum-bound f b (suc n) h = rw suc-mul (omega (arith, sum-bound f b n h, h n))
+sum-bound f b (suc n) h = rw suc-mul (omega (arith, sum-bound f b n (λ k l. h k (omega arith)), h n (omega arith)))
 
 -- the same numbers, the same sum
 pub sum-same : (f g : ℕ → ℕ) (n : ℕ) → ((k : ℕ) → k < n → f k ≡ g k) → sum f n ≡ sum g n

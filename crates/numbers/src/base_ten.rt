@@ -1,7 +1,8 @@
 // Numbers that bytes say: in base ten, and four letters as one number.
 ghost use mathlib.Core.Path.{_≡_};
-ghost use Prim.Native.Nat.{_≤_, _<_};
+ghost use Prim.Native.Nat.{_+_, _≤_, _<_};
 ghost use lib.ListN.{length, getD};
+ghost use Rattle.laws.specs.Stored.{stored};
 ghost use Rattle.numbers.specs.Numbers.{digitOf, valueOf, says, wordOf, letterOf, digitsOf};
 use text::characters;
 use text::parts;
@@ -89,4 +90,17 @@ pub fn digit_at(n: u64, w: usize, d: usize) -> u8
         at -= 1;
     }
     b'0' + (rest % 10) as u8
+}
+
+// Stores the w digits of n at a place of a lent slice.
+pub fn put_digits(room: &mut [u8], at: usize, w: usize, n: u64)
+    requires { ⌜ w < 1000 ⌝ }
+    requires { ⌜ at + w ≤ length (now room) ⌝ }
+    ensures { λ _. ⌜ now (room .exit) ≡ stored at (digitsOf w n) (now (room .entry)) ⌝ }
+{
+    let mut i = 0;
+    while i < w {
+        room[at + i] = digit_at(n, w, i);
+        i += 1;
+    }
 }

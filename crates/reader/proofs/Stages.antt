@@ -6,14 +6,11 @@ use mathlib.Core.List.{List}
 use mathlib.Core.Path.{_≡_, sym, _∙_}
 use mathlib.Core.Logic.{⊎-elim}
 use native.Mathlib.Omega.{arith}
-use borrow.Author.Tests.{lt-ltb, le-ltb, ltb-true, ltb-false}
-use lib.Dec.{ltb}
+use borrow.Author.Tests.{lt-ltb, le-ltb}
 use lib.ListN.{length, getD}
 use Rattle.laws.specs.Least.{least}
-use Rattle.laws.specs.Part.{same}
-use Rattle.laws.proofs.Bools.{either, clash}
-use Rattle.laws.proofs.Leasts.{least-none, some-true, some-false}
-use Rattle.laws.proofs.Parts.{same-equal, same-self}
+use Rattle.laws.proofs.Bools.{either}
+use Rattle.laws.proofs.Leasts.{least-none}
 use Rattle.kinds.specs.declared.of_files.Kind.{Kind}
 use Rattle.kinds.specs.Kinds.{fixedOf}
 use Rattle.tables.specs.Totals.{noTotal, totalsOf}
@@ -21,6 +18,8 @@ use Rattle.answers.proofs.Refusals.{number-of}
 use Rattle.answers.specs.Answers.{accepted, refusedAt}
 use Rattle.layout.specs.Judging.{judgeOf}
 use Rattle.layout.proofs.Judged.{judge-exact}
+use Rattle.keys.specs.Keys.{sharesIn, repeatsIn}
+use Rattle.keys.proofs.Distinct as keys
 use Rattle.records.specs.Records.{countOf, dataOf, keyAt}
 use Rattle.reader.specs.Judged.{judgedAt}
 use Rattle.reader.specs.Totals.{totalTells}
@@ -60,25 +59,11 @@ module _ (k : Kind) (s : List ℕ) where
   unfolding keysTell repeatTold
   keys-bad h = rw (lt-ltb _ _ h)
 
-  -- a record that shares its key with an earlier one repeats
-  repeat-if : (i j : ℕ) → j < i → keyAt k s i ≡ keyAt k s j → repeats k s i ≡ true
-  unfolding repeats sharesKey
-  repeat-if i j h e = some-true (sharesKey k s i) i j h (rw e (same-self (keyAt k s j)))
-
+  -- none repeats exactly when no two share a key
   pub distinct-if : ((i : ℕ) → i < dataOf k s → repeats k s i ≡ false) → Distinct k s
-  distinct-if h i j a b e = ⊎-elim less (λ g. ⊎-elim more (λ f. omega (arith, ltb-false)) (either (ltb j i))) (either (ltb i j))
-    where
-      less : ltb i j ≡ true → i ≡ j
-      less t = absurd (clash (repeat-if j i (ltb-true i j t) (sym e)) (h j b))
-
-      more : ltb j i ≡ true → i ≡ j
-      more t = absurd (clash (repeat-if i j (ltb-true j i t) e) (h i a))
+  unfolding repeats sharesKey repeatsIn sharesIn
+  distinct-if h = keys.distinct-if (keyAt k s) (dataOf k s) h
 
   pub repeat-none : Distinct k s → (i : ℕ) → i < dataOf k s → repeats k s i ≡ false
-  unfolding repeats sharesKey
-  repeat-none d i h = some-false (sharesKey k s i) i (least-none (sharesKey k s i) i other)
-    where
-      other : (j : ℕ) → j < i → same (keyAt k s i) (keyAt k s j) ≡ false
-      other j l =
-          ⊎-elim (λ t. absurd (let z : j ≡ i = d j i (omega arith) h (sym (same-equal _ _ t)) in omega arith)) (λ f. f)
-          (either (same (keyAt k s i) (keyAt k s j)))
+  unfolding repeats sharesKey repeatsIn sharesIn
+  repeat-none d = keys.repeat-none (keyAt k s) (dataOf k s) d

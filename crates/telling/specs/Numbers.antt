@@ -3,13 +3,13 @@ use Prim.Native.Nat.{ℕ}
 use mathlib.Core.List.{List, [], _∷_, _++_}
 use Rattle.answers.specs.declared.told.Answer.{Answer}
 use Rattle.answers.specs.declared.told.Stored.{Stored}
+use Rattle.answers.specs.declared.lying.Lies.{Lies}
+use Rattle.answers.specs.Lying.{caseOf, firstOf, sizeOf}
 use Rattle.outcomes.specs.declared.cases.Told.{Told}
 use Rattle.outcomes.specs.Outcomes.{fourOf}
 use Rattle.walker.specs.declared.walking.Walked.{Walked}
 use Rattle.walker.specs.Walks.{threeOf}
-use Rattle.evidence.specs.declared.lying.Lies.{Lies}
 use Rattle.evidence.specs.declared.lying.Shown.{Shown}
-use Rattle.evidence.specs.Lying.{caseOf, firstOf, sizeOf}
 
 abbrev pub five : Answer → List ℕ
 five a = a .side ∷ a .number ∷ a .rec ∷ a .item ∷ a .code ∷ []

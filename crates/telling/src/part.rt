@@ -1,7 +1,7 @@
 // An answer with where the evidence of a record lies.
 ghost use mathlib.Core.Path.{_≡_};
 ghost use Rattle.telling.specs.Numbers.{threeFor, eightFor};
-use evidence::lying::Lies;
+use answers::lying::Lies;
 use evidence::lying::Shown;
 
 fn three(lies: Lies) -> [u64; 3]

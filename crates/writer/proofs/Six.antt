@@ -53,7 +53,7 @@ one-most b rec = elim (eqb (applicationOf rec) b) as (λ t. cond t 1 0 ≤ 1) [ 
 
 counted : (k : Kind) (s : List ℕ) (q : Quantity) → ((rec : List ℕ) → worth q rec ≤ 1) → quantityOf k s q ≤ dataOf k s
 unfolding quantityOf worthAt
-counted k s q h = omega (arith, sum-bound (worthAt k s q) 1 (dataOf k s) (λ i. h _))
+counted k s q h = omega (arith, sum-bound (worthAt k s q) 1 (dataOf k s) (λ i _. h _))
 
 module _ (k : Kind) (request : fixedOf k .written ≡ true) (h : Head) (bodies : List ℕ) (few : bodyCount k bodies ≤ limit) where
   abbrev s : List ℕ

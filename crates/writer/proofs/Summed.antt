@@ -53,7 +53,7 @@ module _ (k : Kind) (header bodies : List ℕ) where
   -- so a sum fits
   pub sums-small : (i : ℕ) → i ≤ limit → (t : ℕ) → t < 5 → getD (tabulate (sumTo k header bodies i) 5) t 0 ≤ 10 ^ 16
   unfolding sumTo worthBuilt worthFor
-  sums-small i h t l = rw (tab-at (sumTo k header bodies i) 5 t l) (omega (arith, sum-bound (worthBuilt k header bodies t) (10 ^ 13) i each))
+  sums-small i h t l = rw (tab-at (sumTo k header bodies i) 5 t l) (omega (arith, sum-bound (worthBuilt k header bodies t) (10 ^ 13) i (λ j _. each j)))
     where
       each : (j : ℕ) → worthBuilt k header bodies t j ≤ 10 ^ 13
       each j = if-small (ltb t (length (totalsOf k))) _ (10 ^ 13) (worth-small (getD (totalsOf k) t noTotal .3) (dataBuilt k header bodies j))

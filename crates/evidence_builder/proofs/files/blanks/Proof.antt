@@ -1,7 +1,8 @@
 -- One space after the other.
 use Prim.Native.Nat.{_≤_, _-_}
 use Rattle.evidence_builder.specs.Files.{blanks}
-use Rattle.evidence_builder.proofs.Written.{paste-more, paste-all, blanks-length}
+use Rattle.evidence_builder.proofs.Written.{blanks-length}
+use Rattle.laws.proofs.Stores.{paste-more, paste-all}
 use lib.ListN.{length, length-set, getD-replicate}
 use lib.Seq.{paste, paste-zero}
 use mathlib.Core.Path.{_≡_, refl, sym}

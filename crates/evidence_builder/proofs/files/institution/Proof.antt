@@ -1,7 +1,7 @@
 -- The code, and the spaces behind it.
 use Prim.Native.Nat.{_+_}
 use Rattle.evidence_builder.specs.Files.{blanks, institutionOf}
-use Rattle.evidence_builder.proofs.Written.{stored-then}
+use Rattle.laws.proofs.Stores.{stored-then}
 use native.Mathlib.Omega.{arith}
 use borrow.Author.Needs.{needs}
 use Rattle.evidence_builder.proofs.files.institution.Statement.{statement}

@@ -4,7 +4,8 @@ use mathlib.Core.List.{_++_}
 use Rattle.numbers.specs.Numbers.{digitsOf}
 use Rattle.numbers.proofs.Values.{digits-length}
 use Rattle.evidence_builder.specs.Files.{blanks, marks, institutionOf, recordFront}
-use Rattle.evidence_builder.proofs.Written.{stored-then, blanks-length, marks-length}
+use Rattle.evidence_builder.proofs.Written.{blanks-length, marks-length}
+use Rattle.laws.proofs.Stores.{stored-then}
 use native.Mathlib.Omega.{arith}
 use borrow.Author.Needs.{needs}
 use Rattle.evidence_builder.proofs.files.put_front.Statement.{statement}
@@ -13,11 +14,11 @@ use Rattle.evidence_builder.proofs.files.put_front.Tie as tie
 marks-requires : tie.Need-marks-requires
 marks-requires c κs = search needs
 
-add-digits : tie.Need-add-digits
-add-digits c = search needs
+add-put-digits : tie.Need-add-put-digits
+add-put-digits c = search needs
 
-digits-requires : tie.Need-digits-requires
-digits-requires c κs = search needs
+put-digits-requires : tie.Need-put-digits-requires
+put-digits-requires c κs = search needs
 
 add-blanks : tie.Need-add-blanks
 add-blanks c = search needs
@@ -47,10 +48,10 @@ returns c =
     let n = t .args .n in
     let last = c₄ .institution .last .0 in
     let r₁ = c₁ .marks .last .0 in
-    let r₂ = c₂ .digits .last .0 in
+    let r₂ = c₂ .put-digits .last .0 in
     let r₃ = c₃ .blanks .last .0 in
     stored-then at (at + 8) (marks 0x32) (digitsOf 7 n ++ (blanks 10 ++ institutionOf code)) (t .args .room .now) r₁ last (c₁ .marks .ensures)
-    (stored-then (at + 8) (at + 15) (digitsOf 7 n) (blanks 10 ++ institutionOf code) r₁ r₂ last (c₂ .digits .ensures)
+    (stored-then (at + 8) (at + 15) (digitsOf 7 n) (blanks 10 ++ institutionOf code) r₁ r₂ last (c₂ .put-digits .ensures)
     (stored-then (at + 15) (at + 25) (blanks 10) (institutionOf code) r₂ r₃ last (c₃ .blanks .ensures) (c₄ .institution .ensures)
     (omega (arith, blanks-length 10)) (search needs))
     (omega (arith, digits-length 7 n)) (search needs))
@@ -61,8 +62,8 @@ put-front-spec =
     tie.close
     (tie.spec
     marks-requires
-    add-digits
-    digits-requires
+    add-put-digits
+    put-digits-requires
     add-blanks
     blanks-requires
     add-institution

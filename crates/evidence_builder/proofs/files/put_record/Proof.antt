@@ -6,7 +6,8 @@ use Rattle.laws.specs.Stored.{stored}
 use Rattle.evidence.specs.Blocks.{block, front, blocksFor}
 use Rattle.evidence.proofs.Walks.{blocks-enough}
 use Rattle.evidence_builder.specs.Files.{blanks, recordFront}
-use Rattle.evidence_builder.proofs.Written.{stored-then, front-length}
+use Rattle.evidence_builder.proofs.Written.{front-length}
+use Rattle.laws.proofs.Stores.{stored-then}
 use native.Mathlib.Omega.{arith}
 use borrow.Author.Needs.{needs}
 use Rattle.evidence_builder.proofs.files.put_record.Statement.{statement}

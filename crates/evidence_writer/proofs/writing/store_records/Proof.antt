@@ -12,10 +12,9 @@ use Rattle.evidence.proofs.Walks.{blocks-tight}
 use Rattle.evidence_builder.specs.Units.{saidAt, placeOf, saidBy, unitOf, blocksTo}
 use Rattle.evidence_builder.specs.Files.{recordOf}
 use Rattle.evidence_builder.proofs.Walked.{place-first, place-more}
-use Rattle.evidence_builder.proofs.Written.{stored-then}
+use Rattle.laws.proofs.Stores.{stored-then, stored-none}
 use Rattle.evidence_writer.proofs.Built.{records-long}
 use Rattle.evidence_writer.proofs.Units.{blocks-first, blocks-more, blocks-up}
-use Rattle.evidence_writer.proofs.Stored.{stored-none}
 use Rattle.evidence_writer.proofs.writing.store_records.Statement.{statement}
 use Rattle.evidence_writer.proofs.writing.store_records.Tie as tie
 

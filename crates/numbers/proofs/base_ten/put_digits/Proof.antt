@@ -1,15 +1,15 @@
 -- One digit after the other.
 use Prim.Native.Nat.{_≤_, _-_}
 use Rattle.numbers.specs.Numbers.{digitsOf}
 use Rattle.numbers.proofs.Values.{digits-length}
-use Rattle.evidence_builder.proofs.Written.{paste-more, paste-all}
+use Rattle.laws.proofs.Stores.{paste-more, paste-all}
 use lib.ListN.{length, length-set}
 use lib.Seq.{paste, paste-zero}
 use mathlib.Core.Path.{_≡_, refl}
 use native.Mathlib.Omega.{arith}
 use borrow.Author.Needs.{needs}
-use Rattle.evidence_builder.proofs.files.digits.Statement.{statement}
-use Rattle.evidence_builder.proofs.files.digits.Tie as tie
+use Rattle.numbers.proofs.base_ten.put_digits.Statement.{statement}
+use Rattle.numbers.proofs.base_ten.put_digits.Tie as tie
 
 abbrev Inv-loop : tie.InvT-loop
 Inv-loop room₀ at w n i₀ room i = (i ≤ w) × (room ≡ paste room₀ at (digitsOf w n) i) × (length room ≡ length room₀)
@@ -56,8 +56,8 @@ returns c =
     let a = c .before .before .before .args in
     paste-all (a .room .now) (digitsOf (a .w) (a .n)) (l .room) (a .at) (l .i) (l .inv .1) (omega (arith, digits-length (a .w) (a .n)))
 
-pub digits-spec : {M : Type 1} → statement M
-digits-spec =
+pub put-digits-spec : {M : Type 1} → statement M
+put-digits-spec =
     tie.close
     (tie.spec
     Inv-loop

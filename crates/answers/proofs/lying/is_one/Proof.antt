@@ -1,8 +1,8 @@
 -- The two tests, in their order.
-use Rattle.evidence.specs.Lying.{isOne}
+use Rattle.answers.specs.Lying.{isOne}
 use borrow.Author.Tests.{le-leb, lt-leb}
-use Rattle.evidence.proofs.lying.is_one.Statement.{statement}
-use Rattle.evidence.proofs.lying.is_one.Tie as tie
+use Rattle.answers.proofs.lying.is_one.Statement.{statement}
+use Rattle.answers.proofs.lying.is_one.Tie as tie
 
 returns : tie.Need-returns
 unfolding isOne
