@@ -1,6 +1,7 @@
 # Sourced by the scripts: where the kit is, and how a program that it built is run. Where that cannot be, it says so in one
 # line and ends with status 2.
-KIT='rattle-kit-5b logic 064da1ca440f63e7'
+KIT='rattle-kit-5b-plain logic 097e4c862dff5811'
+OTHER='rattle-kit-5b logic 064da1ca440f63e7'
 
 cannot() { # WORDS..
     printf '%s\n' "$*" >&2
@@ -14,7 +15,10 @@ x86_64 | aarch64) ;;
 esac
 command -v rt >/dev/null 2>&1 || cannot "the Rattle kit is missing: no command 'rt' on the PATH (this repository wants $KIT)"
 version=$(rt version) || cannot "the command 'rt' on the PATH is no Rattle kit that runs here (this repository wants $KIT)"
-[ "$version" = "$KIT" ] || echo "another kit is here: this repository was proved with $KIT, and this is $version" >&2
+case $version in
+"$KIT" | "$OTHER") ;;
+*) echo "another kit is here: this repository was proved with $KIT, and this is $version" >&2 ;;
+esac
 tools=$(dirname "$(dirname "$(rt doc)")")/on/$machine/toolchain
 
 # Crates of one level are proved side by side, also where there are fewer processors: none of them then waits idle.

@@ -9,14 +9,22 @@
  * The profile of consent evidence (EI13) is 0 for an ordinary institution. Every other number is one that is partly
  * exempt: its records have a kind of evidence, but a blank extension and no bytes.
  *
+ * A day file holds files of the four kinds, which are its bodies: the byte "1", two digits for how many they are (00 to
+ * 16), for each its name (8 bytes) and its length (five digits), and then the bodies in that order, with nothing between
+ * or behind them. No two names are the same, and each is item 4 of its body's header.
+ *
  * Every function takes any number, any bytes and any length. All but cms_post return the refusal's number, 0 when
- * accepted, and store an answer that begins with five numbers:
+ * accepted, and store an answer. But for day files it begins with five numbers:
  *   answer[0] side    0 one file, or two as they meet; 1, 2 when the first or the second of two is refused by reading:
  *                     a request or its result, enrolments or their evidence
  *   answer[1] number  what was returned
  *   answer[2] record  header 0, data records 1 to n, trailer n + 1; 0 where there is no place
  *   answer[3] item    from 1; 0 where there is no place
  *   answer[4] code    the failure code of number 4; else "0000"
+ * Of a day file it begins with seven:
+ *   answer[0] number  what was returned
+ *   answer[1] body    which one, from 1, of numbers 32 and 33; else 0
+ *   answer[2] to [6]  of number 33 the five that the body is told by itself; else 0, 0, 0, 0 and "0000"
  * A refusal leaves all other lent memory as it was.
  * No function needs more than 64 KB of stack.
  *
@@ -25,7 +33,9 @@
  * its rule, 5 an item disagrees with the kind or header, 6 a count or sum is wrong, 7 the key of an earlier record, 8 lent
  * room is too short, 12 the headers of two files differ, 13 a result without a request or with a copied item that
  * differs, 14 an impossible amount, 15 no such request, 20 an enrolment without evidence, 21 evidence without an
- * enrolment. */
+ * enrolment, 30 the form byte, the count, a length or the size of a day file's contents is wrong, 31 its bodies are not as
+ * long as the contents say, 32 the name of an earlier body, 33 a body is refused: as cms_read refuses it, or with 1 where
+ * its name says no kind that goes in, or last with 5 at record 0, item 4, where its header has another name. */
 #ifndef CMS_H
 #define CMS_H
 
@@ -36,8 +46,9 @@
 extern "C" {
 #endif
 
-/* The last change of this face. 1: the functions of consent evidence came, and no other function changed. */
-#define CMS_FACE 1
+/* The last change of this face. 1: the functions of consent evidence came, and no other function changed. 2: those of day
+ * files came (cms_day_read, cms_day_body, cms_day_write), and no other function changed. */
+#define CMS_FACE 2
 
 #define CMS_EB13 UINT32_C(0x45423133)
 #define CMS_EB14 UINT32_C(0x45423134)
@@ -119,6 +130,27 @@ uint64_t cms_evidence_write(uint32_t profile, const uint8_t *date, size_t date_l
  * number 12 is one of EB13; the record of number 20 is one of EB13, that of 21 one of EI13. */
 uint64_t cms_evidence_compare(uint32_t profile, const uint8_t *enrolments, size_t enrolments_length,
                               const uint8_t *evidence, size_t evidence_length, uint64_t answer[5]);
+
+/* Reads a day file: 30, 31, 32, then 33 for the first body that is refused. One of no bodies is "100". After the seven:
+ *   answer[7] bodies  how many there are; 0 when refused */
+uint64_t cms_day_read(const uint8_t *file, size_t file_length, uint64_t answer[8]);
+
+/* Where one body lies in a day file, by its number 1 to n. On a file that is not accepted it answers as cms_day_read,
+ * whatever the body. Its name stands in it at bytes 19 to 26, counted from 0. After the seven:
+ *   answer[7] case    0 none, because refused; 1 a body; 2 no body of that number
+ *   answer[8] start   the body's first byte in the day file; 0 unless the case is 1
+ *   answer[9] length  its length; 0 unless the case is 1 */
+uint64_t cms_day_body(const uint8_t *file, size_t file_length, uint64_t body, uint64_t answer[10]);
+
+/* Writes a day file into the room, from the names (8 bytes each, one behind the other), a length for each and the bodies,
+ * one behind the other as the names are. Names that are not whole or more than 16, another number of lengths, or a length
+ * over 99,999 is 30; lengths that do not add up to the bodies are 31; then 32 and 33 as in reading, and 8 last. On success
+ * the first bytes of the room are the file, and those past it are unchanged. What cms_day_body says of all bodies makes
+ * the same file again. After the seven:
+ *   answer[7] length  of the file; 0 when refused */
+uint64_t cms_day_write(const uint8_t *names, size_t names_length, const uint64_t *lengths, size_t lengths_length,
+                       const uint8_t *bodies, size_t bodies_length, uint8_t *room, size_t room_length,
+                       uint64_t answer[8]);
 
 #ifdef __cplusplus
 }

@@ -19,7 +19,8 @@
 #include <unistd.h>
 
 enum { READ, WRITE, PAIR, OUTCOME, WALK, POST, APART, TOUCH, DIG, PAINTED,
-       EVIDENCE_READ, EVIDENCE_PART, EVIDENCE_WRITE, EVIDENCE_COMPARE };
+       EVIDENCE_READ, EVIDENCE_PART, EVIDENCE_WRITE, EVIDENCE_COMPARE,
+       DAY_READ, DAY_BODY, DAY_WRITE };
 
 #define THERE UINT64_C(0x636d735f66616365)
 
@@ -185,6 +186,9 @@ static uint64_t call_evidence_write(void) {
     return cms_evidence_write(kind, BYTES(0), BYTES(1), BYTES(2), BYTES(3), NUMBERS(4));
 }
 static uint64_t call_evidence_compare(void) { return cms_evidence_compare(kind, BYTES(0), BYTES(1), NUMBERS(2)); }
+static uint64_t call_day_read(void) { return cms_day_read(BYTES(0), NUMBERS(1)); }
+static uint64_t call_day_body(void) { return cms_day_body(BYTES(0), given, NUMBERS(1)); }
+static uint64_t call_day_write(void) { return cms_day_write(BYTES(0), LIST(1), BYTES(2), BYTES(3), NUMBERS(4)); }
 
 /* Tries the watch: reads the byte at a place from a slice's start, and writes it when told a number. */
 static uint64_t call_touch(void) {
@@ -201,9 +205,12 @@ static uint64_t call_dig(void) {
     return dug[0];
 }
 
+/* The first parameter is a kind, pair or profile. */
+static int is_by_kind(uint64_t which) { return which != POST && which != TOUCH && which != DIG && which < DAY_READ; }
+
 /* Lends what the call says, and tells what is to be called with it. */
 static function prepared(uint64_t which) {
-    if (which != POST && which != TOUCH && which != DIG) kind = (uint32_t)number();
+    if (is_by_kind(which)) kind = (uint32_t)number();
     switch (which) {
     case READ: slice(); an_answer(5); return call_read;
     case WRITE:
@@ -222,6 +229,12 @@ static function prepared(uint64_t which) {
         to_write(slice()); an_answer(6);
         return call_evidence_write;
     case EVIDENCE_COMPARE: slice(); slice(); an_answer(5); return call_evidence_compare;
+    case DAY_READ: slice(); an_answer(8); return call_day_read;
+    case DAY_BODY: slice(); given = number(); an_answer(10); return call_day_body;
+    case DAY_WRITE:
+        for (int i = 0; i < 3; i++) slice();
+        to_write(slice()); an_answer(8);
+        return call_day_write;
     case TOUCH: slice(); given = number(); also = number(); return call_touch;
     case DIG: given = number(); return call_dig;
     default: fail("the bridge was asked for a function that it does not know\n"); return NULL;

@@ -1,5 +1,6 @@
 /* Reads a file as one of a kind and prints what is told of it: example EB21 FILE
  * Of consent evidence it also prints where each lies, as record, first byte and length: example EI13 FILE
+ * Of a day file it also prints where each body lies, as body, name, first byte and length: example DAY FILE
  * Compares enrolments with the evidence for them: example EB13 FILE EI13 FILE */
 #include "cms.h"
 #include <inttypes.h>
@@ -25,31 +26,34 @@ static int take(const char *path, struct file *file) {
     return whole;
 }
 
-static int print(const uint64_t answer[5]) {
-    if (answer[1] == 0) {
+/* What is told: a number, and an answer whose code stands behind so many others. */
+static int print(uint64_t number, const uint64_t *answer, int before_code) {
+    if (number == 0) {
         puts("accepted");
         return 0;
     }
     printf("refused");
-    for (int i = 0; i < 4; i++) printf(" %" PRIu64, answer[i]);
+    for (int i = 0; i < before_code; i++) printf(" %" PRIu64, answer[i]);
     putchar(' ');
-    for (int shift = 24; shift >= 0; shift -= 8) putchar((int)(answer[4] >> shift & 255));
+    for (int shift = 24; shift >= 0; shift -= 8) putchar((int)(answer[before_code] >> shift & 255));
     putchar('\n');
     return 1;
 }
+
+static int print_five(const uint64_t answer[5]) { return print(answer[1], answer, 4); }
 
 static int read_kind(const char *letters) {
     uint32_t kind = 0;
     for (int i = 0; i < 4; i++) kind = kind << 8 | (unsigned char)letters[i];
     uint64_t answer[5];
     cms_read(kind, one.bytes, one.length, answer);
-    return print(answer);
+    return print_five(answer);
 }
 
 static int read_evidence(void) {
     uint64_t answer[8];
     cms_evidence_part(ORDINARY, one.bytes, one.length, 1, answer);
-    int refused = print(answer);
+    int refused = print_five(answer);
     for (uint64_t record = 1; answer[5] == 1; record++) {
         printf("%" PRIu64 " %" PRIu64 " %" PRIu64 "\n", record, answer[6], answer[7]);
         cms_evidence_part(ORDINARY, one.bytes, one.length, record + 1, answer);
@@ -60,16 +64,30 @@ static int read_evidence(void) {
 static int compare(void) {
     uint64_t answer[5];
     cms_evidence_compare(ORDINARY, one.bytes, one.length, other.bytes, other.length, answer);
-    return print(answer);
+    return print_five(answer);
+}
+
+static int read_day(void) {
+    uint64_t answer[10];
+    cms_day_body(one.bytes, one.length, 1, answer);
+    int refused = print(answer[0], answer, 6);
+    for (uint64_t body = 1; answer[7] == 1; body++) {
+        printf("%" PRIu64 " %.8s", body, (const char *)&one.bytes[answer[8] + 19]);
+        printf(" %" PRIu64 " %" PRIu64 "\n", answer[8], answer[9]);
+        cms_day_body(one.bytes, one.length, body + 1, answer);
+    }
+    return refused;
 }
 
 int main(int count, char **words) {
+    if (count == 3 && strcmp(words[1], "DAY") == 0 && take(words[2], &one)) return read_day();
     if (count == 3 && strlen(words[1]) == 4 && take(words[2], &one))
         return strcmp(words[1], "EI13") == 0 ? read_evidence() : read_kind(words[1]);
     if (count == 5 && strcmp(words[1], "EB13") == 0 && strcmp(words[3], "EI13") == 0 && take(words[2], &one) &&
         take(words[4], &other))
         return compare();
-    fputs("usage: example KIND FILE, or example EB13 FILE EI13 FILE; files of no more than 4,098 KB that can be read\n",
+    fputs("usage: example KIND FILE, example DAY FILE, or example EB13 FILE EI13 FILE;\n"
+          "files of no more than 4,098 KB that can be read\n",
           stderr);
     return 2;
 }

@@ -87,10 +87,14 @@ impl Call {
         self.slice(bytes)
     }
 
+    /// Numbers that are only read.
+    pub fn numbers(self, numbers: &[u64]) -> Call {
+        self.slice(&bytes_of(numbers))
+    }
+
     /// Numbers to be written, with what they hold before.
     pub fn list(self, numbers: &[u64]) -> Call {
-        let bytes: Vec<u8> = numbers.iter().flat_map(|number| number.to_le_bytes()).collect();
-        self.room(&bytes)
+        self.room(&bytes_of(numbers))
     }
 
     /// So many numbers, which hold nothing that an answer would be.
@@ -121,6 +125,10 @@ impl Call {
     }
 }
 
+fn bytes_of(numbers: &[u64]) -> Vec<u8> {
+    numbers.iter().flat_map(|number| number.to_le_bytes()).collect()
+}
+
 impl Said {
     pub fn new(returned: u64) -> Said {
         Said { returned, written: Vec::new() }
@@ -134,7 +142,7 @@ impl Said {
 
     /// Then these numbers.
     pub fn numbers(mut self, numbers: &[u64]) -> Said {
-        self.written.extend(numbers.iter().flat_map(|number| number.to_le_bytes()));
+        self.written.extend(bytes_of(numbers));
         self
     }
 

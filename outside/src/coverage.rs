@@ -289,9 +289,9 @@ pub fn entry(operation: Operation, answer: &Answer, n: u64) -> Entry {
 }
 
 /// How often each entry was reached.
-pub struct Counter {
-    listed: BTreeMap<Entry, u64>,
-    unlisted: BTreeMap<Entry, u64>,
+pub struct Counter<E = Entry> {
+    listed: BTreeMap<E, u64>,
+    unlisted: BTreeMap<E, u64>,
 }
 
 impl Default for Counter {
@@ -308,13 +308,21 @@ impl Counter {
 
     /// A counter of the answers of some operations.
     pub fn of(which: fn(&Operation) -> bool) -> Counter {
-        let listed = all().into_iter().filter(|entry| which(&entry.operation));
-        Counter { listed: listed.map(|entry| (entry, 0)).collect(), unlisted: BTreeMap::new() }
+        Counter::of_list(all().into_iter().filter(|entry| which(&entry.operation)))
     }
 
     /// Counts one answer.
     pub fn note(&mut self, operation: Operation, answer: &Answer, n: u64) {
-        let entry = entry(operation, answer, n);
+        self.count(entry(operation, answer, n));
+    }
+}
+
+impl<E: Copy + Ord> Counter<E> {
+    pub(crate) fn of_list(list: impl Iterator<Item = E>) -> Counter<E> {
+        Counter { listed: list.map(|entry| (entry, 0)).collect(), unlisted: BTreeMap::new() }
+    }
+
+    pub(crate) fn count(&mut self, entry: E) {
         match self.listed.get_mut(&entry) {
             Some(times) => *times += 1,
             None => *self.unlisted.entry(entry).or_insert(0) += 1,
@@ -322,12 +330,12 @@ impl Counter {
     }
 
     /// The entries of the list that were never reached.
-    pub fn never(&self) -> Vec<Entry> {
+    pub fn never(&self) -> Vec<E> {
         self.listed.iter().filter(|(_, times)| **times == 0).map(|(entry, _)| *entry).collect()
     }
 
     /// Answers that stand in no list: the rules can't give them.
-    pub fn unlisted(&self) -> Vec<Entry> {
+    pub fn unlisted(&self) -> Vec<E> {
         self.unlisted.keys().copied().collect()
     }
 
@@ -337,7 +345,7 @@ impl Counter {
     }
 
     /// Every entry of the list with its count, the rarest first.
-    pub fn rarest(&self) -> Vec<(Entry, u64)> {
+    pub fn rarest(&self) -> Vec<(E, u64)> {
         let mut entries: Vec<_> = self.listed.iter().map(|(e, t)| (*e, *t)).collect();
         entries.sort_by_key(|(_, times)| *times);
         entries

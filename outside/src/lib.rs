@@ -7,7 +7,8 @@
 //! The reference, of which every function takes any bytes and any numbers, and
 //! none panics:
 //!
-//! * [`model`]: what the treasurer is told: [`Answer`], [`Outcome`], [`Step`], [`EvidencePart`];
+//! * [`model`]: what the treasurer is told: [`Answer`], [`Outcome`], [`Step`], [`EvidencePart`],
+//!   [`DayAnswer`], [`DayBody`];
 //! * [`chars`]: characters, numbers and dates;
 //! * `checked`: one record against its rules, item by item;
 //! * [`layout`]: file kinds, pair kinds, item lengths, table codes;
@@ -17,7 +18,8 @@
 //! * [`pair`](mod@pair): a request meets its result, and one request's outcome;
 //! * [`walk`](mod@walk): record k + 1 of a file, or the end;
 //! * [`post`](mod@post): the posting program's output;
-//! * [`evidence`]: consent evidence is read, written, and compared with enrolments.
+//! * [`evidence`]: consent evidence is read, written, and compared with enrolments;
+//! * [`day`]: a day file is read, asked for its bodies, and written.
 //!
 //! For the comparison:
 //!
@@ -26,6 +28,7 @@
 //! * [`bridge`]: how it is called: by a program in C, which watches it;
 //! * `linked`: the same library linked, on x86-64, to measure its time;
 //! * [`coverage`]: every place and code that the rules can give, counted;
+//! * [`coverage_day`]: the same for day files;
 //! * [`shrink`](mod@shrink): a smaller file that shows the same difference;
 //! * [`settings`]: seed and count, from the environment.
 
@@ -34,6 +37,8 @@ pub mod bridge;
 pub mod chars;
 mod checked;
 pub mod coverage;
+pub mod coverage_day;
+pub mod day;
 pub mod evidence;
 pub mod gen;
 pub mod layout;
@@ -50,8 +55,12 @@ pub mod walk;
 pub mod write;
 
 pub use apart::apart;
+pub use day::{day_body, day_read, day_write};
 pub use evidence::{evidence_compare, evidence_part, evidence_read, evidence_write};
-pub use model::{eight, eight_of_part, nine, six, Answer, EvidencePart, Outcome, Step};
+pub use model::{
+    eight, eight_of_day, eight_of_part, nine, six, ten, Answer, DayAnswer, DayBody, EvidencePart, Outcome,
+    Step,
+};
 pub use pair::{outcome, pair};
 pub use post::{post, post_into};
 pub use read::read;

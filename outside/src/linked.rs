@@ -1,7 +1,7 @@
 //! The proved library linked into this program, with nothing copied and nothing watched, to measure its time. The archive
 //! is for x86-64.
 
-use crate::proved::{EvidenceParts, Parts};
+use crate::proved::{DayParts, EvidenceParts, Parts};
 
 extern "C" {
     fn cms_read(kind: u32, file: *const u8, file_length: usize, answer: *mut u64) -> u64;
@@ -42,6 +42,18 @@ extern "C" {
         code_length: usize,
         records: *const u8,
         records_length: usize,
+        room: *mut u8,
+        room_length: usize,
+        answer: *mut u64,
+    ) -> u64;
+    fn cms_day_read(file: *const u8, file_length: usize, answer: *mut u64) -> u64;
+    fn cms_day_write(
+        names: *const u8,
+        names_length: usize,
+        lengths: *const u64,
+        lengths_length: usize,
+        bodies: *const u8,
+        bodies_length: usize,
         room: *mut u8,
         room_length: usize,
         answer: *mut u64,
@@ -124,6 +136,32 @@ pub fn evidence_write(profile: u32, parts: &EvidenceParts, room: &mut [u8]) -> [
             parts.code.len(),
             parts.records.as_ptr(),
             parts.records.len(),
+            room.as_mut_ptr(),
+            room.len(),
+            answer.as_mut_ptr(),
+        )
+    };
+    answer
+}
+
+pub fn day_read(file: &[u8]) -> [u64; 8] {
+    let mut answer = [0; 8];
+    // Safe: each pointer is good for the length that stands beside it, till the call returns.
+    unsafe { cms_day_read(file.as_ptr(), file.len(), answer.as_mut_ptr()) };
+    answer
+}
+
+pub fn day_write(parts: &DayParts, room: &mut [u8]) -> [u64; 8] {
+    let mut answer = [0; 8];
+    // Safe: each pointer is good for the length that stands beside it, till the call returns.
+    unsafe {
+        cms_day_write(
+            parts.names.as_ptr(),
+            parts.names.len(),
+            parts.lengths.as_ptr(),
+            parts.lengths.len(),
+            parts.bodies.as_ptr(),
+            parts.bodies.len(),
             room.as_mut_ptr(),
             room.len(),
             answer.as_mut_ptr(),

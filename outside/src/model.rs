@@ -132,6 +132,54 @@ pub enum EvidencePart {
     NoRecord,
 }
 
+/// What is told of a day file: number, body, and the body's own answer.
+#[derive(Clone, Copy, Debug, PartialEq, Eq, Hash, PartialOrd, Ord)]
+pub struct DayAnswer {
+    /// The number of the refusal, 0 when accepted.
+    pub number: u64,
+    /// Which body repeats a name or is refused, from 1; else 0.
+    pub body: u64,
+    /// What a refused body is told by itself; else as one that is accepted.
+    pub inner: Answer,
+}
+
+impl DayAnswer {
+    /// Number 0.
+    pub fn accepted() -> DayAnswer {
+        DayAnswer::alone(0)
+    }
+
+    /// A number that tells of no body: 8, 30, 31.
+    pub fn alone(number: u64) -> DayAnswer {
+        DayAnswer { number, body: 0, inner: Answer::accepted() }
+    }
+
+    /// Number 32: a name is repeated.
+    pub fn repeated(body: usize) -> DayAnswer {
+        DayAnswer { body: body as u64, ..DayAnswer::alone(32) }
+    }
+
+    /// Number 33: a body is refused.
+    pub fn refused(body: usize, inner: Answer) -> DayAnswer {
+        DayAnswer { number: 33, body: body as u64, inner }
+    }
+
+    pub fn is_accepted(&self) -> bool {
+        self.number == 0
+    }
+}
+
+/// Where a body of a day file lies.
+#[derive(Clone, Copy, Debug, PartialEq, Eq, Hash)]
+pub enum DayBody {
+    /// Nowhere, because the file was refused.
+    None,
+    /// Here: its name, its first byte in the day file, and its length.
+    Body { name: [u8; 8], start: u64, length: u64 },
+    /// There is no body of that number.
+    NoBody,
+}
+
 /// The six numbers of `cms_apart` and `cms_evidence_write`.
 pub fn six(answer: &Answer, length: u64) -> [u64; 6] {
     let [side, number, record, item, code] = answer.five();
@@ -174,4 +222,22 @@ pub fn eight_of_part(answer: &Answer, part: &EvidencePart) -> [u64; 8] {
         EvidencePart::NoRecord => [2, 0, 0],
     };
     [side, number, record, item, code, case, start, length]
+}
+
+/// The eight numbers of `cms_day_read`, whose last is how many bodies there are, and of `cms_day_write`, whose last is the
+/// file's length.
+pub fn eight_of_day(answer: &DayAnswer, last: u64) -> [u64; 8] {
+    let [side, number, record, item, code] = answer.inner.five();
+    [answer.number, answer.body, side, number, record, item, code, last]
+}
+
+/// The ten numbers of `cms_day_body`.
+pub fn ten(answer: &DayAnswer, body: &DayBody) -> [u64; 10] {
+    let [case, start, length] = match *body {
+        DayBody::None => [0, 0, 0],
+        DayBody::Body { start, length, .. } => [1, start, length],
+        DayBody::NoBody => [2, 0, 0],
+    };
+    let [number, which, side, inner, record, item, code, case] = eight_of_day(answer, case);
+    [number, which, side, inner, record, item, code, case, start, length]
 }

@@ -31,6 +31,11 @@ const EVIDENCE_WRITE: Function =
 const EVIDENCE_COMPARE: Function =
     Function { number: 13, lent: &["the enrolments", "the evidence", "the answer"] };
 
+const DAY_READ: Function = Function { number: 14, lent: &["the file", "the answer"] };
+const DAY_BODY: Function = Function { number: 15, lent: &["the file", "the answer"] };
+const DAY_WRITE: Function =
+    Function { number: 16, lent: &["the names", "the lengths", "the bodies", "the room", "the answer"] };
+
 /// What a file is written from.
 #[derive(Clone, Copy)]
 pub struct Parts<'a> {
@@ -47,6 +52,14 @@ pub struct EvidenceParts<'a> {
     pub date: &'a [u8],
     pub code: &'a [u8],
     pub records: &'a [u8],
+}
+
+/// What a day file is written from.
+#[derive(Clone, Copy)]
+pub struct DayParts<'a> {
+    pub names: &'a [u8],
+    pub lengths: &'a [u64],
+    pub bodies: &'a [u8],
 }
 
 impl Call {
@@ -98,6 +111,19 @@ impl Call {
 
     pub fn evidence_compare(profile: u32, enrolments: &[u8], evidence: &[u8]) -> Call {
         Call::of(&EVIDENCE_COMPARE).number(profile.into()).slice(enrolments).slice(evidence).answer(5)
+    }
+
+    pub fn day_read(file: &[u8]) -> Call {
+        Call::of(&DAY_READ).slice(file).answer(8)
+    }
+
+    pub fn day_body(file: &[u8], body: u64) -> Call {
+        Call::of(&DAY_BODY).slice(file).number(body).answer(10)
+    }
+
+    pub fn day_write(parts: &DayParts, room: &[u8]) -> Call {
+        let DayParts { names, lengths, bodies } = parts;
+        Call::of(&DAY_WRITE).slice(names).numbers(lengths).slice(bodies).room(room).answer(8)
     }
 }
 
@@ -175,11 +201,37 @@ pub fn evidence_compare(profile: u32, enrolments: &[u8], evidence: &[u8]) -> [u6
     kept(ask(&Call::evidence_compare(profile, enrolments, evidence)).and_then(|said| told(&said)))
 }
 
+/// The answer of the proved reader of day files: the seven, then how many bodies there are.
+pub fn day_read(file: &[u8]) -> [u64; 8] {
+    kept(ask(&Call::day_read(file)).and_then(|said| day_told(&said)))
+}
+
+/// The answer for one body of a day file: the seven, then case, start, length.
+pub fn day_body(file: &[u8], body: u64) -> [u64; 10] {
+    kept(ask(&Call::day_body(file, body)).and_then(|said| day_told(&said)))
+}
+
+/// The answer of the proved writer of day files: the seven, then the file's length. It changes the room as its face says.
+pub fn day_write(parts: &DayParts, room: &mut [u8]) -> [u64; 8] {
+    let said = kept(ask(&Call::day_write(parts, room)));
+    room.copy_from_slice(&said.written[..room.len()]);
+    kept(day_told(&said))
+}
+
 /// The numbers of an answer, which is lent last: the second of them was returned, too.
 fn told<const N: usize>(said: &Said) -> Result<[u64; N], Breach> {
+    told_with_number_at(1, said)
+}
+
+/// The same of a day file, where the first of them was.
+fn day_told<const N: usize>(said: &Said) -> Result<[u64; N], Breach> {
+    told_with_number_at(0, said)
+}
+
+fn told_with_number_at<const N: usize>(place: usize, said: &Said) -> Result<[u64; N], Breach> {
     let answer = Said { returned: 0, written: said.written[said.written.len() - 8 * N..].to_vec() };
     let numbers: [u64; N] = answer.as_numbers().try_into().expect("an answer has N numbers");
-    if numbers[1] == said.returned {
+    if numbers[place] == said.returned {
         Ok(numbers)
     } else {
         Err(Breach::Returned(said.returned))
@@ -200,5 +252,8 @@ mod tests {
         let answer = [0, 4, 1, 13, 9];
         assert_eq!(told(&Said::new(4).bytes(b"a room").numbers(&answer)), Ok(answer));
         assert_eq!(told::<5>(&Said::new(0).numbers(&answer)), Err(Breach::Returned(0)));
+        let answer = [33, 2, 0, 4, 1, 13, 9, 0];
+        assert_eq!(day_told(&Said::new(33).bytes(b"a room").numbers(&answer)), Ok(answer));
+        assert_eq!(day_told::<8>(&Said::new(2).numbers(&answer)), Err(Breach::Returned(2)));
     }
 }

@@ -1,8 +1,9 @@
 //! Makes a file smaller while it still shows what it was found for.
 
+use crate::day::layout::kind_said;
 use crate::evidence::layout::BLOCK;
 use crate::gen::{
-    evidence_records, mend_evidence_counts, mend_evidence_serials, mend_serials, mend_totals,
+    evidence_records, mend_evidence_counts, mend_evidence_serials, mend_serials, mend_totals, DayDraft,
 };
 use crate::layout::Kind;
 
@@ -64,6 +65,39 @@ fn mended_evidence(file: Vec<u8>) -> [Vec<u8>; 3] {
     files
 }
 
+/// Drops bodies of a day file, then what can go of each body, and then bytes where few are left.
+pub fn shrink_day(file: &[u8], shows: impl Fn(&[u8]) -> bool) -> Vec<u8> {
+    let mut file = match DayDraft::of(file) {
+        Some(day) => smaller_day(day, &shows).file(),
+        None => file.to_vec(),
+    };
+    if file.len() <= 4 * BLOCK {
+        drop_runs(&mut file, 1, |rest| shows(&rest).then_some(rest));
+    }
+    file
+}
+
+fn smaller_day(mut day: DayDraft, shows: impl Fn(&[u8]) -> bool) -> DayDraft {
+    let mut at = 0;
+    while at < day.bodies.len() {
+        let body = day.bodies.remove(at);
+        if !shows(&day.file()) {
+            day.bodies.insert(at, body);
+            at += 1;
+        }
+    }
+    for at in 0..day.bodies.len() {
+        let with = |file: &[u8]| {
+            let mut other = day.clone();
+            other.bodies[at].file = file.to_vec();
+            other
+        };
+        let kind = kind_said(&day.bodies[at].name);
+        day = with(&shrink(kind, &day.bodies[at].file, |file| shows(&with(file).file())));
+    }
+    day
+}
+
 /// Drops runs of units, half of the file first, then shorter ones; `good` hands back a rest that will do.
 fn drop_runs(file: &mut Vec<u8>, unit: usize, good: impl Fn(Vec<u8>) -> Option<Vec<u8>>) {
     let mut run = (file.len() / unit / 2).max(1);
@@ -83,9 +117,10 @@ fn drop_runs(file: &mut Vec<u8>, unit: usize, good: impl Fn(Vec<u8>) -> Option<V
 #[cfg(test)]
 mod tests {
     use super::*;
+    use crate::day::day_read;
     use crate::evidence::evidence_read;
     use crate::evidence::layout::Profile;
-    use crate::gen::{evidence_of, request_of, Rng};
+    use crate::gen::{day_of, evidence_of, request_of, Rng};
     use crate::read::read;
 
     #[test]
@@ -103,6 +138,7 @@ mod tests {
         let smallest = shrink(None, b"a file with one Z in it", |file| file.contains(&b'Z'));
         assert_eq!(smallest, b"Z");
     }
+
     #[test]
     fn one_record_of_evidence_is_found() {
         let mut draft = evidence_of(&mut Rng::new(3), Profile::Ordinary, 40);
@@ -111,5 +147,18 @@ mod tests {
         let smallest = shrink_evidence(&draft.file(), |file| &evidence_read(0, file).code == b"0102");
         assert_eq!(smallest.len(), 3 * BLOCK);
         assert_eq!(&smallest[BLOCK + 107..BLOCK + 112], b"odd  ");
+    }
+
+    #[test]
+    fn one_record_of_one_body_is_found() {
+        let mut rng = Rng::new(3);
+        let mut day = day_of(&mut rng, 9);
+        let mut draft = request_of(&mut rng, Kind::EB21, 40);
+        draft.bodies[17][97] = b'9';
+        day.bodies[5].name = b"EB219999".to_vec();
+        day.bodies[5].file = draft.file();
+        let smallest = shrink_day(&day.file(), |file| &day_read(file).0.inner.code == b"0075");
+        assert_eq!(smallest.len(), 3 + 13 + 3 * 150);
+        assert_eq!(smallest[16 + 150 + 116], b'9');
     }
 }

@@ -1,3 +1,4 @@
 -- Laws about the definitions of specs/.
 pub mod Refusals
 pub mod Lies
+pub mod OfDay

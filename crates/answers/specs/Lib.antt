@@ -2,3 +2,4 @@
 pub mod Answers
 pub mod Storing
 pub mod Lying
+pub mod OfDay

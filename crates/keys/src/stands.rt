@@ -24,7 +24,7 @@ fn place_at(places: &[u32], i: usize) -> usize
 }
 
 // Key i of s.
-pub(crate) fn key_in<'a>(s: &'a [u8], places: &[u32], spacing: Spacing, i: usize) -> &'a [u8]
+pub fn key_in<'a>(s: &'a [u8], places: &[u32], spacing: Spacing, i: usize) -> &'a [u8]
     requires { ⌜ startOf (now places) spacing i + spacing .size ≤ length (now s) ⌝ }
     ensures { λ r. ⌜ now r ≡ keyIn (now (places .entry)) spacing (now (s .entry)) i ⌝ }
 {

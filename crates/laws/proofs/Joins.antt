@@ -88,6 +88,12 @@ unfolding joined part
 parts-joined size zero s h = rw zero-mul
 parts-joined size (suc n) s h = rw (suc-mul, take-add, parts-joined size n s (omega (arith, suc-mul n size)))
 
+-- and of parts of any sizes, one behind the other
+pub pieces-joined : (size : ℕ → ℕ) (n : ℕ) (s : List ℕ) → joined (λ i. part (sum size i) (size i) s) n ≡ take (sum size n) s
+unfolding joined part sum
+pieces-joined size zero s = refl
+pieces-joined size (suc n) s = rw (pieces-joined size n s, take-add (sum size n) (size n) s)
+
 -- among n lists, list i stands behind those before it
 pub joined-split : (f : ℕ → List ℕ) (n i : ℕ) → i < n → (rest : List ℕ) × (joined f n ≡ joined f i ++ (f i ++ rest))
 unfolding joined

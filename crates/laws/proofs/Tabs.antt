@@ -7,7 +7,7 @@ use mathlib.Core.Logic.{⊎-elim}
 use native.Mathlib.Nat.{le-of-eq, eq-or-lt-of-le, le-of-suc-le-suc, not-suc-le-zero}
 use native.Mathlib.Numerals.{add-one}
 use lib.ListN.{length, getD, take, drop, set, length-append, List·getD-append}
-use lib.Seq.{take-suc-set, take-all, getD-at, drop-cons, set-at}
+use lib.Seq.{take-suc-set, take-all, ext-getD, getD-at, drop-cons, set-at}
 use Rattle.laws.specs.Tabulate.{tabulate}
 
 module _ (f : ℕ → ℕ) where
@@ -42,6 +42,10 @@ pub tab-same : (f g : ℕ → ℕ) (n : ℕ) → ((j : ℕ) → f j ≡ g j) →
 unfolding tabulate
 tab-same f g zero h = refl
 tab-same f g (suc n) h = rw (tab-same f g n h, h n)
+
+-- a list is what stands at each of its places
+pub tab-list : (f : ℕ → ℕ) (l : List ℕ) → ((i : ℕ) → i < length l → f i ≡ getD l i 0) → tabulate f (length l) ≡ l
+tab-list f l h = ext-getD 0 (tabulate f (length l)) l (tab-length f (length l)) (λ i b. let c = rw (tab-length f (length l)) at b in tab-at f (length l) i c ∙ h i c)
 
 -- a loop that fills a lent list from the front: what was filled, and what stood past it
 module _ (f : ℕ → ℕ) (old : List ℕ) where

@@ -4,6 +4,9 @@ use mathlib.Core.List.{List, [], _∷_, _++_}
 use Rattle.answers.specs.declared.told.Answer.{Answer}
 use Rattle.answers.specs.declared.told.Stored.{Stored}
 use Rattle.answers.specs.declared.lying.Lies.{Lies}
+use Rattle.answers.specs.declared.of_day.DayAnswer.{DayAnswer}
+use Rattle.answers.specs.declared.of_day.DayTold.{DayTold}
+use Rattle.answers.specs.declared.of_day.DayShown.{DayShown}
 use Rattle.answers.specs.Lying.{caseOf, firstOf, sizeOf}
 use Rattle.outcomes.specs.declared.cases.Told.{Told}
 use Rattle.outcomes.specs.Outcomes.{fourOf}
@@ -32,3 +35,15 @@ threeFor l = caseOf l ∷ firstOf l ∷ sizeOf l ∷ []
 
 abbrev pub eightFor : Shown → List ℕ
 eightFor s = five (s .answer) ++ threeFor (s .lies)
+
+-- a day's own number, which body, and that body's five
+abbrev pub seven : DayAnswer → List ℕ
+seven a = a .number ∷ a .body ∷ five (a .answer)
+
+-- how many bodies, or how many bytes were stored, follows
+abbrev pub dayEight : DayTold → List ℕ
+dayEight t = seven (t .answer) ++ (t .count ∷ [])
+
+-- a body's case, first byte and length follow
+abbrev pub dayTen : DayShown → List ℕ
+dayTen s = seven (s .answer) ++ threeFor (s .lies)

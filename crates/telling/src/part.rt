@@ -4,7 +4,7 @@ ghost use Rattle.telling.specs.Numbers.{threeFor, eightFor};
 use answers::lying::Lies;
 use evidence::lying::Shown;
 
-fn three(lies: Lies) -> [u64; 3]
+pub(crate) fn three(lies: Lies) -> [u64; 3]
     ensures { λ r. ⌜ r ≡ threeFor lies ⌝ }
 {
     match lies {

@@ -1,6 +1,7 @@
 //! Where records and items stand in a file of evidence.
 
 use super::random::Rng;
+use super::texts::number;
 use std::ops::Range;
 
 pub(super) const BLOCK: usize = 1_024;
@@ -37,7 +38,7 @@ pub fn evidence_records(file: &[u8]) -> Vec<Range<usize>> {
 
 /// Item 12 of a record, where it is digits.
 pub(super) fn said_length(record: &[u8]) -> Option<usize> {
-    record[112..119].iter().try_fold(0, |n, &d| d.is_ascii_digit().then(|| n * 10 + usize::from(d - b'0')))
+    number(&record[112..119])
 }
 
 /// A record that can be changed: the header, a data record or the trailer; none when the file is none.

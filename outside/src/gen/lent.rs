@@ -7,6 +7,11 @@ use crate::layout::Kind;
 /// Memory for the bodies of a file that is too short, exact or too long.
 pub fn any_bodies(rng: &mut Rng, kind: Option<Kind>, file: &[u8]) -> Vec<u8> {
     let exact = kind.map_or(0, |kind| data_records(kind.record_length(), file) * kind.body_length());
+    any_room(rng, exact)
+}
+
+/// Room for so many bytes that is too short, exact or too long.
+pub(super) fn any_room(rng: &mut Rng, exact: usize) -> Vec<u8> {
     let length = match rng.below(20) {
         0 => exact.saturating_sub(1),
         1 => rng.index(exact + 1),

@@ -4,6 +4,13 @@
 //! taken from the layout papers, so that the reader's lengths are checked, too)
 //! and then spoiled in many ways.  The same seed gives the same inputs.
 
+mod day_changed;
+mod day_draft;
+mod day_files;
+mod day_good;
+mod day_places;
+mod day_spoiling;
+mod day_writes;
 mod draft;
 mod evidence_draft;
 mod evidence_files;
@@ -33,6 +40,11 @@ mod texts;
 mod units;
 mod writes;
 
+pub use day_draft::{DayDraft, NamedBody};
+pub use day_files::any_day;
+pub use day_good::{day_of, good_day, name_of};
+pub use day_places::{day_contents, DayPlace};
+pub use day_writes::{any_day_write, DayWriteInput};
 pub use draft::{Draft, LARGEST_AMOUNT};
 pub use evidence_draft::{given_item, EvidenceDraft, Given};
 pub use evidence_files::{any_evidence, evidence_of_blocks, profile_number};

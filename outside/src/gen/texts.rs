@@ -55,6 +55,11 @@ pub(super) fn decimal(value: u64, length: usize) -> Vec<u8> {
     text.as_bytes()[text.len() - length..].to_vec()
 }
 
+/// The number that is written in digits, where it is.
+pub(super) fn number(text: &[u8]) -> Option<usize> {
+    text.iter().try_fold(0, |n, &d| d.is_ascii_digit().then(|| n * 10 + usize::from(d - b'0')))
+}
+
 /// A real date.
 pub(super) fn date(rng: &mut Rng) -> Vec<u8> {
     if rng.once_in(4) {

@@ -1,10 +1,14 @@
 //! What the comparisons share: good files, answers in words, coverage, and what is kept of a difference.
 
 use outside::bridge::{Breach, Said};
-use outside::coverage::{Counter, Entry};
+use outside::coverage::Counter;
+use outside::day::layout::{kind_said, MOST_BODIES};
 use outside::evidence::layout::Profile;
-use outside::gen::{self, EvidenceDraft, Rng};
-use outside::layout::Kind;
+use outside::gen::{self, DayDraft, EvidenceDraft, NamedBody, Rng};
+use outside::layout::{Kind, MOST_RECORDS};
+use outside::DayAnswer;
+use std::collections::HashSet;
+use std::fmt::Display;
 use std::hash::{DefaultHasher, Hash, Hasher};
 use std::path::PathBuf;
 
@@ -12,7 +16,7 @@ use std::path::PathBuf;
 const ENOUGH: u64 = 50_000;
 
 /// Every answer of the list was reached, and no other.
-pub fn check_coverage(counter: &Counter, count: u64) {
+pub fn check_coverage<E: Copy + Ord + Display>(counter: &Counter<E>, count: u64) {
     println!("{} answers can be given; how often the rarest were reached:", counter.size());
     for (entry, times) in counter.rarest().iter().take(12) {
         println!("{times:8} {entry}");
@@ -25,7 +29,7 @@ pub fn check_coverage(counter: &Counter, count: u64) {
     }
 }
 
-fn lines(entries: &[Entry]) -> String {
+fn lines<E: Display>(entries: &[E]) -> String {
     entries.iter().map(|entry| format!("{entry}\n")).collect()
 }
 
@@ -46,24 +50,70 @@ pub fn shown(numbers: &[u64]) -> String {
     }
 }
 
+/// The numbers of an answer about a day file: the five of the body's own stand after two.
+pub fn day_shown(numbers: &[u64]) -> String {
+    match numbers {
+        [number, body, own @ ..] => format!("number {number}, body {body}, by itself {}", shown(own)),
+        _ => format!("{numbers:?}"),
+    }
+}
+
 /// What the library said, where all that it writes is numbers, and the answer is lent last.
 pub fn proved_shown(said: &Result<Said, Breach>) -> String {
-    match said {
-        Ok(said) => format!("{} returned; {}", said.returned, shown(&said.as_numbers())),
-        Err(breach) => breach.to_string(),
-    }
+    in_words(said, None, shown)
 }
 
 /// The same where it also leaves a room, before the answer: whether that is this one.
 pub fn proved_shown_with_room(said: &Result<Said, Breach>, room: &[u8]) -> String {
+    in_words(said, Some(room), shown)
+}
+
+/// The same of a day file, where a room is left or none.
+pub fn proved_day_shown(said: &Result<Said, Breach>, room: Option<&[u8]>) -> String {
+    in_words(said, room, day_shown)
+}
+
+fn in_words(said: &Result<Said, Breach>, room: Option<&[u8]>, words: fn(&[u64]) -> String) -> String {
     match said {
         Ok(Said { returned, written }) => {
-            let (other, answer) = written.split_at(room.len());
-            let answer = shown(&Said::new(0).bytes(answer).as_numbers());
-            let another = if other == room { "the same" } else { "another" };
-            format!("{returned} returned; {answer}; {another} room")
+            let (left, answer) = written.split_at(room.map_or(0, <[u8]>::len));
+            let answer = words(&Said::new(0).bytes(answer).as_numbers());
+            let room = match room {
+                None => "",
+                Some(room) if room == left => "; the same room",
+                Some(_) => "; another room",
+            };
+            format!("{returned} returned; {answer}{room}")
         }
         Err(breach) => breach.to_string(),
+    }
+}
+
+/// Holds an implementation to a list of cases, and names every one that it answers in another way: `of` a case are its
+/// name, what the list says and what the implementation says.
+pub fn held_to_a_list<C>(
+    who: &str,
+    cases: impl Iterator<Item = C>,
+    of: impl Fn(&C) -> (String, Said, Result<Said, Breach>),
+    in_words: fn(&C, &Result<Said, Breach>) -> String,
+) {
+    let mut differing = String::new();
+    for case in cases {
+        let (name, listed, said) = of(&case);
+        let listed = Ok(listed);
+        if said != listed {
+            let [listed, said] = [&listed, &said].map(|said| in_words(&case, said));
+            differing += &format!("{name}\n  the list: {listed}\n  {who}: {said}\n");
+        }
+    }
+    assert!(differing.is_empty(), "answered in another way:\n{differing}");
+}
+
+/// A failure names one case.
+pub fn names_differ(names: impl Iterator<Item = &'static str>) {
+    let mut earlier = HashSet::new();
+    for name in names {
+        assert!(earlier.insert(name), "{name} is there twice");
     }
 }
 
@@ -87,6 +137,45 @@ pub fn good_file(rng: &mut Rng, kind: Kind, n: usize) -> Vec<u8> {
         if result.bodies.len() == n {
             return result.file();
         }
+    }
+}
+
+/// A good file put under another day in its name and date, which its records allow.
+pub fn named(mut file: Vec<u8>, day: &str) -> NamedBody {
+    let kind = kind_said(&file[19..27]).expect("a kind");
+    put(&mut file, 23, day.as_bytes());
+    // The last year, so that no record's date is later.
+    put(&mut file, 27, format!("99{day}").as_bytes());
+    gen::mend_copies(kind, &mut file);
+    NamedBody { name: file[19..27].to_vec(), file }
+}
+
+/// A good day file of the four kinds, of one day and with so many data records each.
+pub fn four_kinds(rng: &mut Rng, n: usize) -> DayDraft {
+    let bodies = Kind::ALL.map(|kind| named(good_file(rng, kind, n), "1231"));
+    DayDraft { bodies: bodies.to_vec() }
+}
+
+/// The largest good day file: debits, all of as many records as there may be.
+pub fn largest_day(rng: &mut Rng) -> DayDraft {
+    let kinds = [Kind::EB21, Kind::EB22].into_iter().cycle().take(MOST_BODIES);
+    let days = (1..).map(|day| format!("12{day:02}"));
+    let bodies = kinds.zip(days).map(|(kind, day)| named(good_file(rng, kind, MOST_RECORDS), &day));
+    DayDraft { bodies: bodies.collect() }
+}
+
+/// The body of a day file that an answer tells of, its name and how long it is; nothing where it tells of none.
+pub fn refused_in<'a>(file: &'a [u8], told: &DayAnswer) -> (&'a [u8], usize) {
+    let places = gen::day_contents(file);
+    let told_of = told.body.checked_sub(1).and_then(|before| places.get(before as usize));
+    told_of.map_or((b"", 0), |place| (&file[place.name.clone()], place.body.len()))
+}
+
+/// The same of what a day file is written from.
+pub fn refused_in_parts<'a>(names: &'a [u8], lengths: &[u64], told: &DayAnswer) -> (&'a [u8], usize) {
+    match told.body.checked_sub(1) {
+        Some(before) => (&names[8 * before as usize..][..8], lengths[before as usize] as usize),
+        None => (b"", 0),
     }
 }
 

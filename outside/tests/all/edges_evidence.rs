@@ -2,7 +2,7 @@
 //! `cases/evidence.txt`; and the list holds what it must.
 
 use super::cases_evidence::{cases, lines, Asked, Case};
-use super::common::{proved_shown, proved_shown_with_room};
+use super::common::{held_to_a_list, names_differ, proved_shown, proved_shown_with_room};
 use outside::bridge::{ask, Breach, Call, Said};
 use outside::coverage::{Counter, Operation};
 use outside::evidence::layout::{Profile, KINDS};
@@ -72,18 +72,9 @@ fn in_words(case: &Case, said: &Result<Said, Breach>) -> String {
     }
 }
 
-/// Holds an implementation to the list, and names every case that it answers in another way.
 fn check(who: &str, says: impl Fn(&Case) -> Result<Said, Breach>) {
-    let mut differing = String::new();
-    for case in cases() {
-        let (listed, said) = (Ok(expected(&case)), says(&case));
-        if said != listed {
-            let Case { name, profile, .. } = case;
-            let [listed, said] = [&listed, &said].map(|said| in_words(&case, said));
-            differing += &format!("{name}, profile {profile}\n  the list: {listed}\n  {who}: {said}\n");
-        }
-    }
-    assert!(differing.is_empty(), "answered in another way:\n{differing}");
+    let named = |case: &Case| format!("{}, profile {}", case.name, case.profile);
+    held_to_a_list(who, cases(), |case| (named(case), expected(case), says(case)), in_words);
 }
 
 #[test]
@@ -96,13 +87,9 @@ fn the_library_answers_as_listed() {
     check("the library", |case| ask(&call(case)));
 }
 
-/// A failure names one case.
 #[test]
 fn no_two_cases_have_one_name() {
-    let mut names = HashSet::new();
-    for [name, ..] in lines() {
-        assert!(names.insert(name), "{name} is there twice");
-    }
+    names_differ(lines().into_iter().map(|[name, ..]| name));
 }
 
 fn operation(case: &Case) -> Operation {

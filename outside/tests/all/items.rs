@@ -5,7 +5,7 @@
 use std::collections::{BTreeMap, BTreeSet};
 use std::path::Path;
 
-fn text(path: &str) -> String {
+pub fn text(path: &str) -> String {
     let whole = Path::new(env!("CARGO_MANIFEST_DIR")).join("..").join(path);
     std::fs::read_to_string(&whole).unwrap_or_else(|_| panic!("no file {path}"))
 }
@@ -558,17 +558,19 @@ fn rules(row: &[&str], kind: &str, kinds: &[&str]) -> Vec<Rule> {
     found
 }
 
-const TEXTS: [&str; 6] = [
+const TEXTS: [&str; 7] = [
     "How to look a refusal up",
     "How to look a refusal of evidence up",
     "The words of the rules",
     BLOCKS_TITLE,
     KINDS_TITLE,
     AGREEING_TITLE,
+    DAY_TITLE,
 ];
 const BLOCKS_TITLE: &str = "EI13: profiles and blocks";
 const KINDS_TITLE: &str = "EI13: kinds of evidence";
 const AGREEING_TITLE: &str = "EI13 beside EB13";
+pub const DAY_TITLE: &str = "Day files";
 const ITEM_ROW: &str = "| Item | Bytes | Name | Rules, each with what is told when it is broken |";
 
 /// The rules of every record, as docs/ITEMS.md has them.
@@ -599,7 +601,7 @@ fn documented(text: &str) -> Records {
 }
 
 /// The rows of the first table below a title, without the row of its head.
-fn rows_below<'a>(text: &'a str, title: &str) -> Vec<Vec<&'a str>> {
+pub fn rows_below<'a>(text: &'a str, title: &str) -> Vec<Vec<&'a str>> {
     let below = text.lines().skip_while(|line| line.strip_prefix("## ") != Some(title)).skip(1);
     let table = below.skip_while(|line| !line.starts_with('|')).take_while(|line| line.starts_with('|'));
     let rows: Vec<&str> = table.filter(|line| !line.starts_with("|-")).collect();
@@ -714,7 +716,7 @@ fn library_as_it_is() -> Records {
 }
 
 /// A text with one place of it changed.
-fn changed(text: &str, from: &str, to: &str) -> String {
+pub fn changed(text: &str, from: &str, to: &str) -> String {
     assert_eq!(text.matches(from).count(), 1, "one place: {from}");
     text.replace(from, to)
 }

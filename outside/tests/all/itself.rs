@@ -42,7 +42,7 @@ pub(super) fn enrolment(kind: &str, payer: &str, result: &str) -> Vec<u8> {
 }
 
 /// A debit body: amount, type, payer, result.
-fn debit(amount: u64, debit_type: &str, payer: &str, result: &str) -> Vec<u8> {
+pub(super) fn debit(amount: u64, debit_type: &str, payer: &str, result: &str) -> Vec<u8> {
     let body = format!(
         "{:7}{:16}{:013}{:13}{:5}{:16}{:2}{:20}{:5}{:1}{:12}{:21}",
         "0880000",
@@ -121,11 +121,11 @@ pub(super) fn file(kind: &str, bodies: &[Vec<u8>]) -> Vec<u8> {
     file
 }
 
-fn number(kind: &str) -> u32 {
+pub(super) fn number(kind: &str) -> u32 {
     u32::from_be_bytes(kind.as_bytes().try_into().unwrap())
 }
 
-fn length(kind: &str) -> usize {
+pub(super) fn length(kind: &str) -> usize {
     if kind.starts_with("EB1") {
         120
     } else {
@@ -150,7 +150,7 @@ fn one_enrolment() -> Vec<u8> {
 }
 
 /// A good file of each kind with three data records.
-fn sample(kind: &str) -> Vec<u8> {
+pub(super) fn sample(kind: &str) -> Vec<u8> {
     let bodies = match kind {
         "EB13" => vec![enrolment("1", "A", ""), enrolment("3", "B", ""), enrolment("7", "C", "")],
         "EB14" => {

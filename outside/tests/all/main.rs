@@ -1,9 +1,13 @@
 //! All tests in one program, so that they run side by side.
 
+mod cases;
+mod cases_day;
 mod cases_evidence;
 mod common;
 mod compare;
 mod compare_apart;
+mod compare_day;
+mod compare_day_write;
 mod compare_evidence;
 mod compare_evidence_enrolments;
 mod compare_evidence_write;
@@ -12,12 +16,17 @@ mod compare_post;
 mod compare_walk;
 mod compare_write;
 mod contracts;
+mod edges_day;
 mod edges_evidence;
 mod items;
+mod items_day;
 mod itself;
+mod itself_day;
+mod itself_day_generated;
 mod itself_evidence;
 mod itself_evidence_generated;
 mod promises;
 mod samples;
 mod stack;
+mod stack_day;
 mod stack_evidence;

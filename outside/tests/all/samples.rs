@@ -3,7 +3,8 @@
 use outside::chars::spaces;
 use outside::layout::{Kind, CENTRE_CODES};
 use outside::{
-    eight_of_part, evidence_compare, evidence_part, evidence_read, gen, pair, proved, read, EvidencePart,
+    day_body, day_read, eight_of_day, eight_of_part, evidence_compare, evidence_part, evidence_read, gen,
+    pair, proved, read, ten, EvidencePart,
 };
 use std::ffi::OsString;
 use std::path::{Path, PathBuf};
@@ -13,7 +14,7 @@ use std::process::Command;
 struct Sample {
     name: String,
     files: Files,
-    /// The kind or pair; of consent evidence the profile.
+    /// The kind or pair; of consent evidence the profile, and of a day file nothing.
     number: u32,
     expected: String,
 }
@@ -25,12 +26,13 @@ enum Files {
     Evidence(Vec<u8>),
     /// Enrolments, and the evidence for them.
     Consent(Vec<u8>, Vec<u8>),
+    Day(Vec<u8>),
 }
 
 impl Files {
     fn all(&self) -> Vec<&[u8]> {
         match self {
-            Files::One(file) | Files::Evidence(file) => vec![file],
+            Files::One(file) | Files::Evidence(file) | Files::Day(file) => vec![file],
             Files::Pair(one, other) | Files::Consent(one, other) => vec![one, other],
         }
     }
@@ -77,10 +79,14 @@ fn sample(text: &Path) -> Sample {
     let files = match profile {
         Some(_) if is_there("file") => Files::Evidence(bytes("file")),
         Some(_) => Files::Consent(bytes("enrolments"), bytes("evidence")),
+        None if word == "DAY" => Files::Day(bytes("file")),
         None if is_there("file") => Files::One(bytes("file")),
         None => Files::Pair(bytes("request"), bytes("result")),
     };
-    let kind = || u32::from_be_bytes(word.as_bytes().try_into().expect("four letters"));
+    let kind = || match word {
+        "DAY" => 0,
+        _ => u32::from_be_bytes(word.as_bytes().try_into().expect("four letters")),
+    };
     Sample {
         name: text.file_stem().expect("a name").to_string_lossy().into_owned(),
         files,
@@ -91,10 +97,8 @@ fn sample(text: &Path) -> Sample {
 
 /// The line that an answer makes; an accepted pair has its lists.
 fn line(five: [u64; 5], lists: Option<[Vec<u64>; 2]>) -> String {
-    let [side, number, record, item, code] = five;
-    if number != 0 {
-        let code = (code as u32).to_be_bytes();
-        return format!("refused {side} {number} {record} {item} {}", code.escape_ascii());
+    if five[1] != 0 {
+        return refused(&five);
     }
     let words = |list: &[u64]| list.iter().map(|won| format!(" {won}")).collect::<String>();
     match lists {
@@ -105,25 +109,56 @@ fn line(five: [u64; 5], lists: Option<[Vec<u64>; 2]>) -> String {
     }
 }
 
+/// The line of a refusal, whose last number is a code.
+fn refused(told: &[u64]) -> String {
+    let (code, others) = told.split_last().expect("a code");
+    let words: String = others.iter().map(|number| format!(" {number}")).collect();
+    format!("refused{words} {}", (*code as u32).to_be_bytes().escape_ascii())
+}
+
 /// The line of a file of evidence; an accepted one has the first byte and the length of each evidence.
 fn evidence_line(five: [u64; 5], part: impl Fn(u64) -> [u64; 8]) -> String {
-    let mut line = line(five, None);
-    // There is no record 0, and none of a file that is refused.
-    let case = if five[1] == 0 { 2 } else { 0 };
-    assert_eq!(part(0)[5..], [case, 0, 0]);
-    for record in 1.. {
-        match part(record) {
-            [side, number, place, item, code, 1, first, length] => {
-                assert_eq!([side, number, place, item, code], five);
-                line += &format!(" {first}+{length}");
-            }
-            none => {
-                assert_eq!((&none[..5], &none[5..]), (&five[..], &[case, 0, 0][..]));
+    let parts = parts(&five, five[1] == 0, |record| part(record).to_vec());
+    let words = parts.iter().map(|(first, length)| format!(" {first}+{length}"));
+    line(five, None) + &words.collect::<String>()
+}
+
+/// The line of a day file; an accepted one has the name, the first byte and the length of each body.
+fn day_line(file: &[u8], told: [u64; 8], body: impl Fn(u64) -> [u64; 10]) -> String {
+    let [number, .., n] = told;
+    let parts = parts(&told[..7], number == 0, |which| body(which).to_vec());
+    assert_eq!(parts.len() as u64, n);
+    if number != 0 {
+        return refused(&told[..7]);
+    }
+    let words = parts.iter().map(|&(first, length)| {
+        let name = &file[first as usize + 19..first as usize + 27];
+        format!(" {}@{first}+{length}", name.escape_ascii())
+    });
+    "accepted".to_string() + &words.collect::<String>()
+}
+
+/// First byte and length of each part of a file, asked for one by one; each answer begins with what is told of the file.
+fn parts(told: &[u64], accepted: bool, part: impl Fn(u64) -> Vec<u64>) -> Vec<(u64, u64)> {
+    let asked = |which: u64| -> [u64; 3] {
+        let answer = part(which);
+        assert_eq!(answer[..told.len()], *told);
+        answer[told.len()..].try_into().expect("case, start and length")
+    };
+    // There is no part 0, and none of a file that is refused.
+    let none = [if accepted { 2 } else { 0 }, 0, 0];
+    assert_eq!(asked(0), none);
+    let mut parts = Vec::new();
+    for which in 1.. {
+        match asked(which) {
+            [1, first, length] => parts.push((first, length)),
+            other => {
+                assert_eq!(other, none);
                 break;
             }
         }
     }
-    line
+    parts
 }
 
 /// What the reference and the library say.
@@ -142,6 +177,18 @@ fn said(sample: &Sample) -> [String; 2] {
             [
                 evidence_line(evidence_read(profile, file).five(), ours),
                 evidence_line(proved::evidence_read(profile, file), theirs),
+            ]
+        }
+        Files::Day(file) => {
+            let (answer, bodies) = day_read(file);
+            let ours = |which: u64| {
+                let (answer, body) = day_body(file, which);
+                ten(&answer, &body)
+            };
+            let theirs = |which: u64| proved::day_body(file, which);
+            [
+                day_line(file, eight_of_day(&answer, bodies), ours),
+                day_line(file, proved::day_read(file), theirs),
             ]
         }
         Files::Consent(enrolments, evidence) => {
@@ -194,7 +241,7 @@ fn the_samples_are_many_enough() {
         samples.iter().any(|sample| match sample.files {
             Files::One(..) => !pair && test(sample),
             Files::Pair(..) => pair && test(sample),
-            Files::Evidence(..) | Files::Consent(..) => false,
+            Files::Evidence(..) | Files::Consent(..) | Files::Day(..) => false,
         })
     };
     for kind in Kind::ALL {
@@ -228,7 +275,7 @@ fn the_samples_of_evidence_are_many_enough() {
         let of = |files: &Files| match files {
             Files::Evidence(..) => !compared,
             Files::Consent(..) => compared,
-            Files::One(..) | Files::Pair(..) => false,
+            Files::One(..) | Files::Pair(..) | Files::Day(..) => false,
         };
         let found =
             samples.iter().any(|s| of(&s.files) && s.number == profile && s.expected.starts_with(start));
@@ -251,12 +298,38 @@ fn the_samples_of_evidence_are_many_enough() {
     }
 }
 
+/// The same of day files: every number, and 33 with every number of a body of few records.
+#[test]
+fn the_samples_of_days_are_many_enough() {
+    let samples = samples();
+    let days = || samples.iter().filter(|sample| matches!(sample.files, Files::Day(_)));
+    for told in ["accepted", "refused 30 0 ", "refused 31 0 ", "refused 32 3 "] {
+        assert!(days().any(|sample| sample.expected.starts_with(told)), "no day file is told {told}");
+    }
+    for number in [1, 2, 4, 5, 6, 7] {
+        let of = |sample: &Sample| {
+            let words: Vec<&str> = sample.expected.split(' ').collect();
+            words.starts_with(&["refused", "33"]) && words[4] == number.to_string()
+        };
+        assert!(days().any(of), "no body is refused with {number}");
+    }
+    for bodies in [0, 2, 4, 16] {
+        let accepted = |sample: &Sample| {
+            sample.expected.starts_with("accepted") && sample.expected.matches('@').count() == bodies
+        };
+        assert!(days().any(accepted), "no day file of {bodies} bodies is accepted");
+    }
+}
+
 /// What the rules leave open today is chosen so that a stricter reading would not refuse it.
 #[test]
 fn the_samples_keep_stricter_rules_too() {
     let mut seen = [0, 0, 0];
     for sample in samples() {
-        let files = sample.files.all();
+        let files = match &sample.files {
+            Files::Day(day) => gen::day_contents(day).into_iter().map(|place| &day[place.body]).collect(),
+            files => files.all(),
+        };
         for file in files.iter().filter(|file| file.len() >= 300 && file.len() % 150 == 0) {
             let (data, trailer) = file[150..].split_at(file.len() - 300);
             for record in data.chunks(150).filter(|_| file.starts_with(b"H") && &file[19..23] == b"EB21") {
@@ -337,6 +410,7 @@ fn words(sample: &Sample) -> Option<Vec<OsString>> {
             Some(of(std::str::from_utf8(&kind).expect("letters"), "file").to_vec())
         }
         Files::Evidence(_) if sample.number == ORDINARY => Some(of("EI13", "file").to_vec()),
+        Files::Day(_) => Some(of("DAY", "file").to_vec()),
         Files::Consent(..) if sample.number == ORDINARY => {
             Some([of("EB13", "enrolments"), of("EI13", "evidence")].concat())
         }
@@ -344,13 +418,13 @@ fn words(sample: &Sample) -> Option<Vec<OsString>> {
     }
 }
 
-/// What the example prints: the line, and each evidence on a line of its own with its record's number.
+/// What the example prints: the line, and each evidence or body on a line of its own with its number.
 fn printed(sample: &Sample) -> String {
     if !sample.expected.starts_with("accepted") {
         return format!("{}\n", sample.expected);
     }
     let parts = sample.expected.split(' ').enumerate().skip(1);
-    let lines = parts.map(|(record, part)| format!("{record} {}\n", part.replace('+', " ")));
+    let lines = parts.map(|(record, part)| format!("{record} {}\n", part.replace(['@', '+'], " ")));
     "accepted\n".to_string() + &lines.collect::<String>()
 }
 

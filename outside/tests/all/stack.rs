@@ -1,7 +1,7 @@
 //! How much stack the library needs: every function of the C face, called on a painted stack with the largest inputs,
 //! good ones and ones whose fault is found last, touches no more than include/cms.h says.
 
-use super::stack_evidence;
+use super::{stack_day, stack_evidence};
 use crate::common::put;
 use outside::bridge::{ask, Call};
 use outside::gen::{self, Draft, Rng};
@@ -207,6 +207,7 @@ fn all_cases() -> Vec<Case> {
         cases.extend(of_two_files(pair, &request, &result));
     }
     cases.extend(stack_evidence::all_cases(&mut rng));
+    cases.extend(stack_day::all_cases(&mut rng));
     cases
 }
 

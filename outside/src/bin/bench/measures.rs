@@ -3,16 +3,20 @@
 //! The three take turns, so that whatever else the machine does falls on all; of each the shortest turn counts.
 
 use outside::evidence::layout::MOST_BLOCKS;
-use outside::gen::{self, Draft, EvidenceDraft, Rng};
+use outside::gen::{self, DayDraft, Draft, EvidenceDraft, NamedBody, Rng};
 use outside::layout::{Kind, PairKind};
-use outside::proved::{EvidenceParts, Parts};
-use outside::{evidence_read, evidence_write, linked, pair, read, six, write};
+use outside::proved::{DayParts, EvidenceParts, Parts};
+use outside::{
+    day_read, day_write, eight_of_day, evidence_read, evidence_write, linked, pair, read, six, write,
+};
 use std::hint::black_box;
 use std::time::{Duration, Instant};
 
 const SIZES: [usize; 3] = [10, 100, 430];
 /// Records of a file of evidence, which has 4 MB whatever they are.
 const EVIDENCE_SIZES: [usize; 3] = [14, 100, 430];
+/// Records of the four files of a day together.
+const DAY_SIZES: [usize; 3] = [4 * 10, 4 * 100, 4 * 430];
 const TURNS: usize = 40;
 const TURN: Duration = Duration::from_millis(4);
 
@@ -39,6 +43,8 @@ pub fn print() {
         Case { name: "pair debit", sizes: SIZES, measure: pairing },
         Case { name: "read EI13", sizes: EVIDENCE_SIZES, measure: reading_evidence },
         Case { name: "write EI13", sizes: EVIDENCE_SIZES, measure: writing_evidence },
+        Case { name: "read day", sizes: DAY_SIZES, measure: reading_a_day },
+        Case { name: "write day", sizes: DAY_SIZES, measure: writing_a_day },
     ];
     for case in cases {
         let mut rng = Rng::new(1);
@@ -55,7 +61,7 @@ pub fn print() {
                 library * 1e9 / *n as f64,
             );
         }
-        if case.sizes != SIZES {
+        if case.sizes == EVIDENCE_SIZES {
             continue;
         }
         for who in 0..2 {
@@ -121,15 +127,20 @@ fn writing(rng: &mut Rng, n: usize) -> [f64; 3] {
     ])
 }
 
-/// Every second request is answered with "N", the last of them first.
+/// Every so many of the requests answered with "N", the last of them first.
+fn refused(request: &Draft, one_in: usize) -> Draft {
+    let mut result = request.clone();
+    let pair = request.kind.pair();
+    result.kind = pair.result();
+    result.bodies = request.bodies.iter().rev().step_by(one_in).cloned().collect();
+    let place = gen::body_item(result.kind, pair.result_item());
+    result.bodies.iter_mut().for_each(|body| body[place.clone()].copy_from_slice(b"N0021"));
+    result
+}
+
 fn pairing(rng: &mut Rng, n: usize) -> [f64; 3] {
     let request = request_of(rng, Kind::EB21, n);
-    let mut result = request.clone();
-    result.kind = Kind::EB22;
-    result.bodies = request.bodies.iter().rev().step_by(2).cloned().collect();
-    let place = gen::body_item(Kind::EB22, 8);
-    result.bodies.iter_mut().for_each(|body| body[place.clone()].copy_from_slice(b"N0021"));
-    let (request, result) = (request.file(), result.file());
+    let (request, result) = (request.file(), refused(&request, 2).file());
     let kind = Kind::EB21.number();
     let [mut taken, mut not_taken, mut ones, mut others] = [(); 4].map(|()| vec![0; n]);
     let told = linked::pair(kind, &request, &result, &mut taken, &mut not_taken);
@@ -175,6 +186,46 @@ fn writing_evidence(rng: &mut Rng, n: usize) -> [f64; 3] {
     in_turns([
         &mut || linked::evidence_write(0, black_box(&parts), &mut room)[1],
         &mut || evidence_write(0, date, code, black_box(&records), &mut other).0.number,
+        &mut || checksum(black_box(&file)),
+    ])
+}
+
+/// A day of four files, the requests and their results, that have so many records together.
+fn day_of(rng: &mut Rng, n: usize) -> DayDraft {
+    let mut day = DayDraft::default();
+    for pair in PairKind::ALL {
+        let request = request_of(rng, pair.request(), n / 4);
+        for draft in [&request, &refused(&request, 1)] {
+            day.bodies.push(NamedBody { name: gen::name_of(draft), file: draft.file() });
+        }
+    }
+    day
+}
+
+fn reading_a_day(rng: &mut Rng, n: usize) -> [f64; 3] {
+    let file = day_of(rng, n).file();
+    let (told, bodies) = day_read(&file);
+    assert_eq!(linked::day_read(&file), eight_of_day(&told, bodies));
+    assert_eq!((told.number, bodies), (0, 4));
+    in_turns([
+        &mut || linked::day_read(black_box(&file))[0],
+        &mut || day_read(black_box(&file)).0.number,
+        &mut || checksum(black_box(&file)),
+    ])
+}
+
+fn writing_a_day(rng: &mut Rng, n: usize) -> [f64; 3] {
+    let day = day_of(rng, n);
+    let (file, names, lengths, bodies) = (day.file(), day.names(), day.lengths(), day.joined());
+    let parts = DayParts { names: &names, lengths: &lengths, bodies: &bodies };
+    let (mut room, mut other) = (vec![0; file.len()], vec![0; file.len()]);
+    let told = linked::day_write(&parts, &mut room);
+    let (answer, length) = day_write(&names, &lengths, &bodies, &mut other);
+    assert_eq!(told, eight_of_day(&answer, length));
+    assert!(room == file && other == file);
+    in_turns([
+        &mut || linked::day_write(black_box(&parts), &mut room)[0],
+        &mut || day_write(&names, &lengths, black_box(&bodies), &mut other).0.number,
         &mut || checksum(black_box(&file)),
     ])
 }

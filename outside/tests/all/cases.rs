@@ -1,0 +1,133 @@
+//! What the lists of edge cases share: their columns, how bytes are written in them, and files of the four kinds.
+
+use super::common::put;
+use outside::gen::Draft;
+use outside::layout::{Kind, PairKind};
+use outside::model::code_number;
+
+/// Bytes that no file has where it is filled.
+pub const UNWRITTEN: u8 = 0xc3;
+
+/// The lines of a list behind the one that names its columns, each in as many columns.
+pub fn lines<const N: usize>(list: &'static str, columns: &str) -> Vec<[&'static str; N]> {
+    let (_, list) = list.split_once(columns).expect("the list names its columns");
+    let cases = list.lines().filter(|line| !line.is_empty() && !line.starts_with("== "));
+    let columns = |line: &'static str| line.split(" | ").collect::<Vec<_>>().try_into();
+    cases.map(|line| columns(line).unwrap_or_else(|_| panic!("{N} columns: {line}"))).collect()
+}
+
+pub fn number(word: &str) -> u64 {
+    word.parse().unwrap_or_else(|_| panic!("no number: {word}"))
+}
+
+/// The numbers of an answer, of which one is a code.
+pub fn answer(words: &str, code_at: usize) -> Vec<u64> {
+    let of = |(at, word): (usize, &str)| match at {
+        at if at == code_at => code_number(word.as_bytes().try_into().expect("a code of four bytes")),
+        _ => number(word),
+    };
+    words.split(' ').enumerate().map(of).collect()
+}
+
+/// What stands in a list for these bytes.
+pub fn bytes(text: &str) -> Vec<u8> {
+    let mut parts = text.split("\\x");
+    let mut bytes = parts.next().unwrap_or("").replace('_', " ").into_bytes();
+    for part in parts {
+        let (byte, after) = part.split_at(2);
+        bytes.push(u8::from_str_radix(byte, 16).expect("two digits of a byte"));
+        bytes.extend(after.replace('_', " ").into_bytes());
+    }
+    bytes
+}
+
+pub fn filled(text: &str, length: usize) -> Vec<u8> {
+    let mut filled = bytes(text);
+    assert!(filled.len() <= length, "too long: {text}");
+    filled.resize(length, b' ');
+    filled
+}
+
+/// What an input is made of, and how it is changed afterwards.
+pub fn parted(input: &str) -> (Vec<&str>, Vec<&str>) {
+    input.split(' ').partition(|word| !word.contains('='))
+}
+
+/// A change: its left side and its right side.
+pub fn sides(word: &str) -> (&str, &str) {
+    word.split_once('=').unwrap_or_else(|| panic!("no change: {word}"))
+}
+
+pub fn change(file: &mut Vec<u8>, word: &str) {
+    match sides(word) {
+        ("cut", length) => file.truncate(number(length) as usize),
+        ("add", text) => file.extend(bytes(text)),
+        (at, text) => put(file, number(at) as usize, &bytes(text)),
+    }
+}
+
+/// A word for each: `X#*3` is X1, X2 and X3, `X##*3` is X01, X02 and X03, and `-` none.
+pub fn repeated(words: &[&str]) -> Vec<String> {
+    let of = |word: &&str| match word.split_once('*') {
+        Some((one, times)) => (1..=number(times)).map(|n| numbered(one, n)).collect(),
+        None => vec![word.to_string()],
+    };
+    words.iter().filter(|word| **word != "-").flat_map(of).collect()
+}
+
+fn numbered(word: &str, n: u64) -> String {
+    let width = word.matches('#').count();
+    word.replacen('#', &format!("{n:0width$}"), 1).replace('#', "")
+}
+
+// ----------------------------------------------------- files of the four kinds
+
+/// A file of one institution; trailer items that are only digits are zero.
+pub fn draft(kind: Kind, date: &str, bodies: Vec<Vec<u8>>) -> Draft {
+    let debit = kind.pair() == PairKind::Debit;
+    Draft {
+        kind,
+        code: b"9912345678".to_vec(),
+        date: date.as_bytes().to_vec(),
+        item6: if debit { b"0046554".to_vec() } else { Vec::new() },
+        item7: if debit { filled("65501053333", 16) } else { Vec::new() },
+        bodies,
+        centre_errors: vec![b'0'; 8],
+        fee: vec![b'0'; 11],
+        mac: vec![b' '; 10],
+    }
+}
+
+/// An enrolment by its kind, its payer and, in an EB14, its result.
+pub fn enrolment(kind: &str, payer: &str, result: &str) -> Vec<u8> {
+    let items = [
+        b"240310".to_vec(),
+        filled(kind, 1),
+        filled(payer, 20),
+        b"0880000".to_vec(),
+        filled("110123456789", 16),
+        filled("800101", 16),
+        filled("", 4 + 2),
+        filled(result, 5 + 1),
+        filled("MEMBER", 12),
+        filled("", 1 + 10),
+    ];
+    items.concat()
+}
+
+/// A debit of 10,000 won, type 0, by its payer and, in an EB22, its result.
+pub fn debit(payer: &str, result: &str) -> Vec<u8> {
+    let items = [
+        b"0880000".to_vec(),
+        filled("110123456789", 16),
+        b"0000000010000".to_vec(),
+        filled("800101", 13),
+        filled(result, 5),
+        filled("00HOSTING DUES", 16),
+        filled("", 2),
+        filled(payer, 20),
+        filled("", 5),
+        filled("0", 1 + 12 + 21),
+    ];
+    items.concat()
+}

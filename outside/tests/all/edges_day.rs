@@ -1,0 +1,138 @@
+//! The edge cases of day files: the reference and the proved library are each held to the answer of the list,
+//! `cases/day.txt`; and the list holds what it must.
+
+use super::cases_day::{cases, lines, Asked, Case};
+use super::common::{held_to_a_list, names_differ, proved_day_shown, refused_in, refused_in_parts};
+use outside::bridge::{ask, Breach, Call, Said};
+use outside::coverage::Counter;
+use outside::coverage_day::{DayEntry, DayOperation, Told};
+use outside::gen::DayWriteInput;
+use outside::proved::DayParts;
+use outside::{day_body, day_read, day_write, eight_of_day, ten, Answer, DayAnswer};
+
+/// What the list says must come of a case.
+fn expected(case: &Case) -> Said {
+    let said = Said::new(case.answer[0]);
+    match &case.asked {
+        Asked::Write { given, file } => {
+            let mut after = given.room.clone();
+            if case.answer[0] == 0 {
+                after[..file.len()].copy_from_slice(file);
+            }
+            said.bytes(&after).numbers(&case.answer)
+        }
+        _ => said.numbers(&case.answer),
+    }
+}
+
+/// What the reference says.
+fn reference(case: &Case) -> Said {
+    match &case.asked {
+        Asked::Read { file } => {
+            let (told, n) = day_read(file);
+            Said::new(told.number).numbers(&eight_of_day(&told, n))
+        }
+        Asked::Body { file, which } => {
+            let (told, body) = day_body(file, *which);
+            Said::new(told.number).numbers(&ten(&told, &body))
+        }
+        Asked::Write { given, .. } => {
+            let DayWriteInput { names, lengths, bodies, room } = given;
+            let mut room = room.clone();
+            let (told, length) = day_write(names, lengths, bodies, &mut room);
+            Said::new(told.number).bytes(&room).numbers(&eight_of_day(&told, length))
+        }
+    }
+}
+
+/// The same asked of the library.
+fn call(case: &Case) -> Call {
+    match &case.asked {
+        Asked::Read { file } => Call::day_read(file),
+        Asked::Body { file, which } => Call::day_body(file, *which),
+        Asked::Write { given: DayWriteInput { names, lengths, bodies, room }, .. } => {
+            Call::day_write(&DayParts { names, lengths, bodies }, room)
+        }
+    }
+}
+
+/// What was said, in words; of a room only whether it is the list's.
+fn in_words(case: &Case, said: &Result<Said, Breach>) -> String {
+    match &case.asked {
+        Asked::Write { given, .. } => {
+            proved_day_shown(said, Some(&expected(case).written[..given.room.len()]))
+        }
+        _ => proved_day_shown(said, None),
+    }
+}
+
+fn check(who: &str, says: impl Fn(&Case) -> Result<Said, Breach>) {
+    held_to_a_list(who, cases(), |case| (case.name.to_string(), expected(case), says(case)), in_words);
+}
+
+#[test]
+fn the_reference_answers_as_listed() {
+    check("the reference", |case| Ok(reference(case)));
+}
+
+#[test]
+fn the_library_answers_as_listed() {
+    check("the library", |case| ask(&call(case)));
+}
+
+#[test]
+fn no_two_cases_have_one_name() {
+    names_differ(lines().into_iter().map(|[name, ..]| name));
+}
+
+/// The answer of the list.
+fn told(case: &Case) -> DayAnswer {
+    let [number, body, side, inner, record, item, code, ..] = case.answer[..] else {
+        panic!("{}: an answer has seven numbers", case.name);
+    };
+    let code = (code as u32).to_be_bytes();
+    DayAnswer { number, body, inner: Answer { side, number: inner, record, item, code } }
+}
+
+fn note(counter: &mut [Counter<DayEntry>; 3], case: &Case) {
+    let (told, last) = (told(case), case.answer[7]);
+    let [reading, asking, writing] = counter;
+    match &case.asked {
+        Asked::Read { file } => {
+            reading.note_bodies(DayOperation::Read, &told, last, refused_in(file, &told));
+        }
+        Asked::Body { file, which } => asking.note_body(&told, *which, last, refused_in(file, &told)),
+        Asked::Write { given, .. } => {
+            let refused = refused_in_parts(&given.names, &given.lengths, &told);
+            writing.note_bodies(DayOperation::Write, &told, given.lengths.len() as u64, refused);
+        }
+    }
+}
+
+/// Every number; 32 at every body that can be told, and 33 with every own number; and no answer that the rules can't give.
+#[test]
+fn the_list_has_every_answer() {
+    let mut counters = [DayOperation::Read, DayOperation::Body, DayOperation::Write].map(Counter::of_day);
+    cases().for_each(|case| note(&mut counters, &case));
+    for counter in &counters {
+        let unlisted = counter.unlisted();
+        assert!(unlisted.is_empty(), "the rules can't give: {unlisted:#?}");
+        let never = counter.never();
+        let reached = |told: Told| !never.iter().any(|entry| entry.told == told);
+        assert!(reached(Told::Alone(30)) && reached(Told::Alone(31)));
+        assert!((1..=7).all(|number| (1..=16).any(|body| reached(Told::Refused(body, number)))));
+    }
+    let [reading, asking, writing] = counters.map(|counter| counter.never());
+    let reached = |never: &[DayEntry], told: Told| !never.iter().any(|entry| entry.told == told);
+    for never in [&reading, &writing] {
+        assert!([0, 1, 2, 4, 16].into_iter().all(|bodies| reached(never, Told::Accepted(bodies))));
+    }
+    for body in 2..=16 {
+        assert!(reached(&reading, Told::Repeated(body)), "32 at {body}");
+    }
+    for body in 1..=16 {
+        assert!((1..=7).any(|number| reached(&reading, Told::Refused(body, number))), "33 at {body}");
+        assert!(reached(&asking, Told::There(body)), "body {body}");
+    }
+    assert!(reached(&asking, Told::NotThere) && reached(&writing, Told::Alone(8)));
+}
