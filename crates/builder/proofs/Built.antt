@@ -17,6 +17,7 @@ use Rattle.laws.proofs.Sums.{sum-same}
 use Rattle.kinds.specs.declared.of_files.Kind.{Kind}
 use Rattle.tables.specs.declared.totals.Quantity.{Quantity}
 use Rattle.kinds.specs.Kinds.{fixedOf}
+use Rattle.tables.specs.Totals.{mostTotals}
 use Rattle.records.specs.Records.{recordAt, recordOf, countOf}
 use Rattle.records.specs.Quantities.{worth, worthAt, quantityOf}
 use Rattle.records.proofs.Places.{size-pos}
@@ -135,9 +136,9 @@ module _ (k : Kind) (h : Head) (bodies o : List ℕ) (n : ℕ) (count : n ≡ bo
       same : (i : ℕ) → i < n → worthAt k sofar q i ≡ builtWorth k H bodies q i
       same i l = worth-same k sofar (dataBuilt k H bodies) q i (sofar-record i l)
 
-  sofar-totals : tabulate (fileTotal k sofar) 5 ≡ builtTotals k H bodies
+  sofar-totals : tabulate (fileTotal k sofar) mostTotals ≡ builtTotals k H bodies
   unfolding builtTotals fileTotal builtTotal
-  sofar-totals = tab-same (fileTotal k sofar) (builtTotal k H bodies) 5 (λ t. rw sofar-quantity)
+  sofar-totals = tab-same (fileTotal k sofar) (builtTotal k H bodies) mostTotals (λ t. rw sofar-quantity)
 
   -- the trailer last
   after-trailer :
@@ -153,7 +154,7 @@ module _ (k : Kind) (h : Head) (bodies o : List ℕ) (n : ℕ) (count : n ≡ bo
     front-put = second ∙ rw (first, after-header, header-back) after-data
 
     pub file-put :
-        sums ≡ tabulate (fileTotal k (take ((n + 2) * w) f₂)) 5 → f₃ ≡ stored ((n + 1) * w) (trailerBuilt k (take w f₂) sums) f₂ →
+        sums ≡ tabulate (fileTotal k (take ((n + 2) * w) f₂)) mostTotals → f₃ ≡ stored ((n + 1) * w) (trailerBuilt k (take w f₂) sums) f₂ →
         f₃ ≡ fileOf k h bodies ++ drop ((n + 2) * w) o
     file-put s t = t ∙ rw (s, front-put, front-back, sofar-totals) after-trailer
 

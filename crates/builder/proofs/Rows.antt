@@ -1,4 +1,4 @@
--- Rows are small, and there are few totals.
+-- Rows are small.
 -- Assumes nothing.
 use Prim.Native.Nat.{ℕ, _+_, _*_, _≤_, _<_}
 use mathlib.Core.List.{List}
@@ -7,7 +7,7 @@ use native.Mathlib.Nat.{mul-le-mul}
 use native.Mathlib.Omega.{arith}
 use borrow.Author.Tests.{leb-true}
 use lib.Dec.{leb}
-use lib.ListN.{length, getD}
+use lib.ListN.{getD}
 use Rattle.kinds.specs.declared.of_files.Kind.{Kind}
 use Rattle.kinds.specs.declared.of_files.Role.{Role}
 use Rattle.tables.specs.declared.row.Row.{Row}
@@ -15,7 +15,6 @@ use Rattle.kinds.specs.Kinds.{fixedFor, fixedOf}
 use Rattle.kinds.proofs.Forms.{of-form}
 use Rattle.tables.specs.Rows.{blank}
 use Rattle.tables.specs.Tables.{rowsOf}
-use Rattle.tables.specs.Totals.{enrolmentTotals, debitRequestTotals, debitResultTotals, totalsFor, totalsOf}
 use Rattle.rows.specs.Laid.{laidOut}
 use Rattle.rows.proofs.Laying.{laid-inside}
 use Rattle.builder.proofs.Sizes.{size-most}
@@ -29,7 +28,3 @@ pub body-fits : (k : Kind) (i : ℕ) → i < 1000000 → i * fixedOf k .body ≤
 body-fits k i h =
     mul-le-mul {n₁ = i} {m₁ = fixedOf k .body} {n₂ = 1000000} {m₂ = 131} (omega arith)
     (leb-true (fixedOf k .body) 131 (of-form (λ f. leb (fixedFor f .body) 131) refl (k .form)))
-
-pub totals-few : (k : Kind) → length (totalsOf k) ≤ 5
-unfolding enrolmentTotals debitRequestTotals debitResultTotals
-totals-few k = leb-true (length (totalsOf k)) 5 (of-form (λ f. leb (length (totalsFor f)) 5) refl (k .form))

@@ -13,7 +13,7 @@ use Rattle.tables.specs.declared.row.Row.{Row}
 use Rattle.tables.specs.declared.totals.Quantity.{Quantity}
 use Rattle.kinds.specs.Kinds.{front, fixedOf}
 use Rattle.tables.specs.Tables.{rowsOf}
-use Rattle.tables.specs.Totals.{noTotal, totalsOf}
+use Rattle.tables.specs.Totals.{noTotal, totalsOf, mostTotals}
 use Rattle.records.specs.Quantities.{worth, quantityOf}
 use Rattle.builder.specs.Bytes.{rowOver, fillBy}
 use Rattle.laws.specs.Tabulate.{tabulate}
@@ -65,12 +65,12 @@ builtWorth k header bodies q i = worth q (dataBuilt k header bodies i)
 unfoldable pub builtQuantity : Kind → List ℕ → List ℕ → Quantity → ℕ
 builtQuantity k header bodies q = sum (builtWorth k header bodies q) (bodyCount k bodies)
 
--- what each total of the trailer is; there are five at most
+-- what each total of the trailer is
 unfoldable pub builtTotal : Kind → List ℕ → List ℕ → ℕ → ℕ
 builtTotal k header bodies t = cond (ltb t (length (totalsOf k))) (builtQuantity k header bodies (getD (totalsOf k) t noTotal .3)) 0
 
 unfoldable pub builtTotals : Kind → List ℕ → List ℕ → List ℕ
-builtTotals k header bodies = tabulate (builtTotal k header bodies) 5
+builtTotals k header bodies = tabulate (builtTotal k header bodies) mostTotals
 
 -- the same of a file that holds the records
 unfoldable pub fileTotal : Kind → List ℕ → ℕ → ℕ

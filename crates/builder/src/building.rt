@@ -14,6 +14,7 @@ use numbers::base_ten;
 use rows::by_record;
 use tables::row::Row;
 use tables::totals;
+use tables::totals::MOST_TOTALS;
 use text::parts;
 
 // Byte d of what is given for an item of the header.
@@ -109,7 +110,7 @@ fn fill_data(kind: Kind, header: &[u8], bodies: &[u8], i: usize, rec: &mut [u8])
 }
 
 // The total that an item of the trailer says.
-fn total_for(kind: Kind, sums: [u64; 5], item: u64) -> u64
+fn total_for(kind: Kind, sums: [u64; MOST_TOTALS], item: u64) -> u64
     ensures { λ r. ⌜ r ≡ totalFor kind sums item ⌝ }
 {
     let n = totals::total_count(kind);
@@ -120,14 +121,14 @@ fn total_for(kind: Kind, sums: [u64; 5], item: u64) -> u64
         }
         t += 1;
     }
-    if n < 5 {
+    if n < MOST_TOTALS {
         return sums[n];
     }
     0
 }
 
 // Byte j of the trailer, by the row over it.
-fn trailer_byte(row: Row, kind: Kind, header: &[u8], sums: [u64; 5], j: usize) -> u8
+fn trailer_byte(row: Row, kind: Kind, header: &[u8], sums: [u64; MOST_TOTALS], j: usize) -> u8
     requires { ⌜ row ≡ rowOver (rowsOf kind Role.Trailer) j ⌝ }
     ensures { λ r. ⌜ r ≡ trailerByte kind (now (header .entry)) sums j ⌝ }
 {
@@ -161,7 +162,7 @@ fn fill_header(kind: Kind, date: &[u8], code: &[u8], item6: &[u8], item7: &[u8],
 }
 
 // Fills lent bytes with the trailer, in the same way.
-fn fill_trailer(kind: Kind, header: &[u8], sums: [u64; 5], rec: &mut [u8])
+fn fill_trailer(kind: Kind, header: &[u8], sums: [u64; MOST_TOTALS], rec: &mut [u8])
     requires { ⌜ length (now rec) ≡ fixedOf kind .size ⌝ }
     ensures { λ _. ⌜ now (rec .exit) ≡ trailerBuilt kind (now (header .entry)) sums ⌝ }
 {
@@ -212,7 +213,11 @@ pub(crate) fn data_120(
 }
 
 // The trailer as its own 120 bytes.
-pub(crate) fn trailer_120(kind: Kind, header: &[u8], sums: [u64; 5]) -> [u8; Fixed::ENROLMENT_SIZE]
+pub(crate) fn trailer_120(
+    kind: Kind,
+    header: &[u8],
+    sums: [u64; MOST_TOTALS],
+) -> [u8; Fixed::ENROLMENT_SIZE]
     requires { ⌜ fixedOf kind .size ≡ 120 ⌝ }
     ensures { λ r. ⌜ r ≡ trailerBuilt kind (now (header .entry)) sums ⌝ }
 {
@@ -254,7 +259,11 @@ pub(crate) fn data_150(
 }
 
 // The trailer as its own 150 bytes.
-pub(crate) fn trailer_150(kind: Kind, header: &[u8], sums: [u64; 5]) -> [u8; Fixed::DEBIT_SIZE]
+pub(crate) fn trailer_150(
+    kind: Kind,
+    header: &[u8],
+    sums: [u64; MOST_TOTALS],
+) -> [u8; Fixed::DEBIT_SIZE]
     requires { ⌜ fixedOf kind .size ≡ 150 ⌝ }
     ensures { λ r. ⌜ r ≡ trailerBuilt kind (now (header .entry)) sums ⌝ }
 {

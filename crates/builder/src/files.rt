@@ -4,6 +4,7 @@ ghost use mathlib.Core.List.{_++_};
 ghost use Prim.Native.Nat.{_+_, _*_, _≤_, _<_};
 ghost use lib.ListN.{length, take, drop};
 ghost use Rattle.kinds.specs.Kinds.{fixedOf, limit};
+ghost use Rattle.tables.specs.Totals.{mostTotals};
 ghost use Rattle.records.specs.Records.{countOf};
 ghost use Rattle.laws.specs.Joined.{joined};
 ghost use Rattle.builder.specs.Records.{headOf, bodyCount, headerBuilt, dataBuilt, fileTotal, trailerBuilt};
@@ -14,6 +15,7 @@ use crate::building;
 use kinds::of_files::Fixed;
 use kinds::of_files::Kind;
 use tables::totals;
+use tables::totals::MOST_TOTALS;
 use text::parts;
 
 // Builds the header and stores it at the front.
@@ -73,14 +75,14 @@ fn sum_at(kind: Kind, file: &[u8], t: usize) -> u64
     0
 }
 
-fn sums_of(kind: Kind, file: &[u8]) -> [u64; 5]
+fn sums_of(kind: Kind, file: &[u8]) -> [u64; MOST_TOTALS]
     requires { ⌜ 2 ≤ countOf kind (now file) ⌝ }
     requires { ⌜ countOf kind (now file) ≤ limit + 2 ⌝ }
-    ensures { λ r. ⌜ r ≡ tabulate (fileTotal kind (now (file .entry))) 5 ⌝ }
+    ensures { λ r. ⌜ r ≡ tabulate (fileTotal kind (now (file .entry))) mostTotals ⌝ }
 {
-    let mut sums = [0u64; 5];
+    let mut sums = [0u64; MOST_TOTALS];
     let mut t = 0;
-    while t < 5 {
+    while t < MOST_TOTALS {
         sums[t] = sum_at(kind, file, t);
         t += 1;
     }
@@ -88,7 +90,7 @@ fn sums_of(kind: Kind, file: &[u8]) -> [u64; 5]
 }
 
 // Builds the trailer by the header that stands in front, and stores it.
-pub fn put_trailer(kind: Kind, sums: [u64; 5], at: usize, file: &mut [u8])
+pub fn put_trailer(kind: Kind, sums: [u64; MOST_TOTALS], at: usize, file: &mut [u8])
     requires { ⌜ at + fixedOf kind .size ≤ length (now file) ⌝ }
     ensures { λ _. ⌜ now (file .exit) ≡ stored at (trailerBuilt kind (take (fixedOf kind .size) (now (file .entry))) sums) (now (file .entry)) ⌝ }
 {

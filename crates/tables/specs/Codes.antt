@@ -2,9 +2,7 @@
 use Prim.Native.Nat.{ℕ}
 use mathlib.Core.Bool.{Bool}
 use mathlib.Core.List.{List, [], _∷_, _++_}
-use lib.Dec.{eqb}
-use lib.ListN.{length, getD}
-use Rattle.laws.specs.Least.{some}
+use Rattle.tables.specs.Among.{isAmong}
 
 -- set by banks
 unfoldable pub bankCodes : List ℕ
@@ -27,9 +25,5 @@ centreCodes =
 unfoldable pub tableCodes : List ℕ
 tableCodes = bankCodes ++ centreCodes
 
--- code number k of the table is this one
-unfoldable pub codeIs : ℕ → ℕ → Bool
-codeIs code k = eqb (getD tableCodes k 0) code
-
-unfoldable pub isTableCode : ℕ → Bool
-isTableCode code = some (codeIs code) (length tableCodes)
+abbrev pub isTableCode : ℕ → Bool
+isTableCode code = isAmong tableCodes code

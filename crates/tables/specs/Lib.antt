@@ -1,5 +1,7 @@
 -- The tables.
+pub mod Among
 pub mod Codes
+pub mod Makers
 pub mod Rows
 pub mod Tables
 pub mod Totals

@@ -49,3 +49,7 @@ totalsFor DebitResult = debitResultTotals
 
 abbrev pub totalsOf : Kind → List Total
 totalsOf k = totalsFor (k .form)
+
+-- no trailer has more
+abbrev pub mostTotals : ℕ
+mostTotals = 5

@@ -1,9 +1,10 @@
 // The failure codes: four bytes as one number.
 ghost use mathlib.Core.Path.{_≡_};
-ghost use Rattle.tables.specs.Codes.{isTableCode};
+ghost use Rattle.tables.specs.Among.{placeAmong};
+ghost use Rattle.tables.specs.Codes.{tableCodes, isTableCode};
 
 // The table codes: the 25 set by banks, then the 23 set by the centre.
-const CODES: [u64; 48] = [
+pub(crate) const CODES: [u64; 48] = [
     0x3030_3132,
     0x3030_3134,
     0x3030_3135,
@@ -54,16 +55,24 @@ const CODES: [u64; 48] = [
     0x3939_3939,
 ];
 
+// Where the code stands in the table; past its end where it is none of them.
+pub(crate) fn place(code: u64) -> usize
+    ensures { λ r. ⌜ r ≡ placeAmong tableCodes code ⌝ }
+{
+    let codes = CODES;
+    let mut i = 0;
+    while i < codes.len() {
+        if codes[i] == code {
+            return i;
+        }
+        i += 1;
+    }
+    codes.len()
+}
+
 // The code is one of the table.
 pub fn table_code(code: u64) -> bool
     ensures { λ r. ⌜ r ≡ isTableCode code ⌝ }
 {
-    let mut i = 0;
-    while i < CODES.len() {
-        if CODES[i] == code {
-            return true;
-        }
-        i += 1;
-    }
-    false
+    place(code) < CODES.len()
 }

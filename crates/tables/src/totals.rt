@@ -23,6 +23,9 @@ pub enum Quantity {
 // Item, start, length, quantity.
 pub struct Total(pub u64, pub usize, pub usize, pub Quantity);
 
+// No trailer has more.
+pub const MOST_TOTALS: usize = 5;
+
 const ENROLMENT_TOTALS: [Total; 4] = [
     Total(5, 27, 8, Quantity::Records),
     Total(6, 35, 8, Quantity::OfKind(b'1')),

@@ -18,7 +18,7 @@ use Rattle.laws.proofs.Tabs.{tab-at}
 use Rattle.kinds.specs.declared.of_files.Kind.{Kind}
 use Rattle.kinds.specs.Kinds.{fixedOf, limit}
 use Rattle.tables.specs.declared.totals.Quantity.{Quantity}
-use Rattle.tables.specs.Totals.{noTotal, totalsOf}
+use Rattle.tables.specs.Totals.{noTotal, totalsOf, mostTotals}
 use Rattle.answers.specs.Answers.{_then_}
 use Rattle.answers.proofs.Refusals.{number-of, then-second, told-same}
 use Rattle.records.specs.Records.{recordAt, recordOf, countOf, keyAt}
@@ -38,7 +38,7 @@ use Rattle.builder.specs.Files.{frontOf, fileOf}
 use Rattle.builder.proofs.Bodies.{body-inside, built-part}
 use Rattle.builder.proofs.Built.{file-length}
 use Rattle.builder.proofs.Lengths.{trailer-length}
-use Rattle.builder.proofs.Rows.{totals-few}
+use Rattle.tables.proofs.Counts.{totals-few}
 use Rattle.builder.proofs.Sizes.{body-size, key-behind, one-more}
 use Rattle.laws.proofs.Pieces.{part-behind}
 use Rattle.writer.specs.Writing.{bodySpacing, headerTold, dataTold, trailerTold, sumTold, sumsTold, keysTold, builtTold}
@@ -97,7 +97,7 @@ module _ (k : Kind) (h : Head) (bodies : List ℕ) where
   -- total t is among the sums
   pub total-built : (t : ℕ) → t < length (totalsOf k) → getD sums t 0 ≡ builtQuantity k H bodies (getD (totalsOf k) t noTotal .3)
   unfolding builtTotals builtTotal
-  total-built t l = tab-at (builtTotal k H bodies) 5 t (omega (arith, totals-few k)) ∙ rw (lt-ltb t (length (totalsOf k)) l)
+  total-built t l = tab-at (builtTotal k H bodies) mostTotals t (omega (arith, totals-few k)) ∙ rw (lt-ltb t (length (totalsOf k)) l)
 
   -- each record is judged as it is built
   judged-header : judgedAt k s 0 ≡ headerTold k H

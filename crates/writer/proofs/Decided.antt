@@ -9,6 +9,7 @@ use Rattle.laws.specs.Tabulate.{tabulate}
 use Rattle.laws.proofs.Bools.{either}
 use Rattle.kinds.specs.declared.of_files.Kind.{Kind}
 use Rattle.kinds.specs.Kinds.{limit}
+use Rattle.tables.specs.Totals.{mostTotals}
 use Rattle.answers.specs.declared.told.Answer.{Answer}
 use Rattle.answers.specs.Answers.{refuses, firstTold, _then_}
 use Rattle.answers.proofs.Refusals.{refuses-zero, refuses-other, then-first, then-second}
@@ -74,7 +75,7 @@ module _ (k : Kind) (h : Head) (bodies : List ℕ) (n : ℕ) (count : n ≡ body
       pub by-data : (b .number ≡ 0 → ⊥) → Read b
       by-data ne = sym (on ∙ stops b (firstTold (dataTold k H bodies) (bodyCount k bodies)) after-data data-told ne)
 
-      module _ (y : b .number ≡ 0) (summed : List ℕ) (are : summed ≡ tabulate (sumTo k header bodies n) 5) (front : List ℕ) (still : front ≡ header) (c : Answer)
+      module _ (y : b .number ≡ 0) (summed : List ℕ) (are : summed ≡ tabulate (sumTo k header bodies n) mostTotals) (front : List ℕ) (still : front ≡ header) (c : Answer)
           (g : c ≡ (trailerTold k front summed n then sumsTold k (trailerBuilt k front summed) summed (n + 1))) where
         totals : summed ≡ sums
         totals = are ∙ rw (same, count) (sums-end k H bodies)

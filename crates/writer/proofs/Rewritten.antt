@@ -21,7 +21,7 @@ use Rattle.kinds.specs.declared.of_files.Role.the-variants.{Header, Data, Trail
 use Rattle.tables.specs.declared.totals.Quantity.{Quantity}
 use Rattle.kinds.specs.Kinds.{fixedOf, limit}
 use Rattle.tables.specs.Tables.{rowsOf}
-use Rattle.tables.specs.Totals.{noTotal, totalsOf}
+use Rattle.tables.specs.Totals.{noTotal, totalsOf, mostTotals}
 use Rattle.tables.proofs.Tiling.{size-least}
 use Rattle.layout.proofs.Judged.{All-hold}
 use Rattle.answers.specs.Answers.{accepted}
@@ -41,7 +41,7 @@ use Rattle.writer.specs.Writing.{writeAs, afterAs, writeOf, roomAfter}
 use Rattle.kinds.specs.Kinds.{requestOf}
 use Rattle.writer.specs.Apart.{headIn, bodyAt, bodiesIn}
 use Rattle.writer.specs.Says.{Bytes}
-use Rattle.builder.proofs.Rows.{totals-few}
+use Rattle.tables.proofs.Counts.{totals-few}
 use Rattle.laws.proofs.Tabs.{tab-at}
 use Rattle.builder.proofs.Sizes.{body-size}
 use Rattle.writer.proofs.Sizes.{item6-inside, item7-inside}
@@ -148,7 +148,7 @@ module _ (k : Kind) (s : List ℕ) (m : Meets k s) where
   unfolding builtTotals builtTotal totalHolds
   totals-said t l =
       rw (
-        tab-at (builtTotal k H (bodiesIn k s)) 5 t (omega (arith, totals-few k)),
+        tab-at (builtTotal k H (bodiesIn k s)) mostTotals t (omega (arith, totals-few k)),
         lt-ltb t (length (totalsOf k)) l,
         quantity-rebuilt (getD (totalsOf k) t noTotal .3),
       ) (m .totals t l)

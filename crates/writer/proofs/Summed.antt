@@ -19,7 +19,7 @@ use Rattle.kinds.specs.declared.of_files.Kind.{Kind}
 use Rattle.kinds.specs.Kinds.{limit}
 use Rattle.tables.specs.declared.totals.Quantity.{Quantity}
 use Rattle.tables.specs.declared.totals.Quantity.the-variants.{Records, OfKind, Amounts, Marked, AmountsMarked}
-use Rattle.tables.specs.Totals.{noTotal, totalsOf}
+use Rattle.tables.specs.Totals.{noTotal, totalsOf, mostTotals}
 use Rattle.layout.specs.Items.{applicationOf, amountOf, markOf}
 use Rattle.numbers.specs.Numbers.{valueOf}
 use Rattle.numbers.proofs.Values.{value-within}
@@ -51,29 +51,29 @@ worth-small (AmountsMarked b) rec = if-small (eqb (markOf rec) b) (amountOf rec)
 
 module _ (k : Kind) (header bodies : List ℕ) where
   -- so a sum fits
-  pub sums-small : (i : ℕ) → i ≤ limit → (t : ℕ) → t < 5 → getD (tabulate (sumTo k header bodies i) 5) t 0 ≤ 10 ^ 16
+  pub sums-small : (i : ℕ) → i ≤ limit → (t : ℕ) → t < mostTotals → getD (tabulate (sumTo k header bodies i) mostTotals) t 0 ≤ 10 ^ 16
   unfolding sumTo worthBuilt worthFor
-  sums-small i h t l = rw (tab-at (sumTo k header bodies i) 5 t l) (omega (arith, sum-bound (worthBuilt k header bodies t) (10 ^ 13) i (λ j _. each j)))
+  sums-small i h t l = rw (tab-at (sumTo k header bodies i) mostTotals t l) (omega (arith, sum-bound (worthBuilt k header bodies t) (10 ^ 13) i (λ j _. each j)))
     where
       each : (j : ℕ) → worthBuilt k header bodies t j ≤ 10 ^ 13
       each j = if-small (ltb t (length (totalsOf k))) _ (10 ^ 13) (worth-small (getD (totalsOf k) t noTotal .3) (dataBuilt k header bodies j))
 
   -- none yet, one more, all of them
-  pub sums-start : (0 ∷ 0 ∷ 0 ∷ 0 ∷ 0 ∷ []) ≡ tabulate (sumTo k header bodies 0) 5
+  pub sums-start : (0 ∷ 0 ∷ 0 ∷ 0 ∷ 0 ∷ []) ≡ tabulate (sumTo k header bodies 0) mostTotals
   unfolding tabulate sumTo sum
   sums-start = refl
 
-  pub sums-more : (i : ℕ) → tabulate (sumWith k (dataBuilt k header bodies i) (tabulate (sumTo k header bodies i) 5)) 5 ≡ tabulate (sumTo k header bodies (i + 1)) 5
+  pub sums-more : (i : ℕ) → tabulate (sumWith k (dataBuilt k header bodies i) (tabulate (sumTo k header bodies i) mostTotals)) mostTotals ≡ tabulate (sumTo k header bodies (i + 1)) mostTotals
   unfolding sumWith sumTo worthBuilt
   sums-more i =
-      tab-within (sumWith k (dataBuilt k header bodies i) (tabulate (sumTo k header bodies i) 5)) (sumTo k header bodies (i + 1)) 5 more
+      tab-within (sumWith k (dataBuilt k header bodies i) (tabulate (sumTo k header bodies i) mostTotals)) (sumTo k header bodies (i + 1)) mostTotals more
     where
-      more : (t : ℕ) → t < 5 → getD (tabulate (sumTo k header bodies i) 5) t 0 + worthFor k (dataBuilt k header bodies i) t ≡ sum (worthBuilt k header bodies t) (i + 1)
-      more t l = rw (tab-at (sumTo k header bodies i) 5 t l) (sym (sum-more (worthBuilt k header bodies t) i))
+      more : (t : ℕ) → t < mostTotals → getD (tabulate (sumTo k header bodies i) mostTotals) t 0 + worthFor k (dataBuilt k header bodies i) t ≡ sum (worthBuilt k header bodies t) (i + 1)
+      more t l = rw (tab-at (sumTo k header bodies i) mostTotals t l) (sym (sum-more (worthBuilt k header bodies t) i))
 
-  pub sums-end : tabulate (sumTo k header bodies (bodyCount k bodies)) 5 ≡ builtTotals k header bodies
+  pub sums-end : tabulate (sumTo k header bodies (bodyCount k bodies)) mostTotals ≡ builtTotals k header bodies
   unfolding builtTotals sumTo builtTotal builtQuantity worthBuilt worthFor builtWorth
-  sums-end = tab-same (sumTo k header bodies (bodyCount k bodies)) (builtTotal k header bodies) 5 all
+  sums-end = tab-same (sumTo k header bodies (bodyCount k bodies)) (builtTotal k header bodies) mostTotals all
     where
       some-total : (t : ℕ) → ltb t (length (totalsOf k)) ≡ true → (i : ℕ) → i < bodyCount k bodies → worthBuilt k header bodies t i ≡ builtWorth k header bodies (getD (totalsOf k) t noTotal .3) i
       some-total t b i l = rw b

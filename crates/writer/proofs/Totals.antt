@@ -14,7 +14,7 @@ use Rattle.laws.specs.Part.{part}
 use Rattle.laws.proofs.Bools.{clash}
 use Rattle.laws.proofs.Parts.{part-length, part-at}
 use Rattle.laws.proofs.Tabs.{tab-at}
-use Rattle.numbers.specs.Numbers.{says, digitsOf}
+use Rattle.numbers.specs.Numbers.{digitsOf}
 use Rattle.numbers.proofs.Values.{digits-length, says-within}
 use Rattle.kinds.specs.declared.of_files.Kind.{Kind}
 use Rattle.kinds.specs.declared.of_files.Form.{Form}
@@ -26,7 +26,7 @@ use Rattle.tables.specs.declared.totals.Total.{Total}
 use Rattle.kinds.specs.Kinds.{kind, fixedFor, fixedOf}
 use Rattle.tables.specs.Rows.{blank}
 use Rattle.tables.specs.Tables.{trailerFront, enrolmentTrailer, enrolmentRequestTrailer, debitRequestTrailer, rowsOf}
-use Rattle.tables.specs.Totals.{noTotal, enrolmentTotals, debitRequestTotals, debitResultTotals, totalsFor, totalsOf}
+use Rattle.tables.specs.Totals.{noTotal, enrolmentTotals, debitRequestTotals, debitResultTotals, totalsFor, totalsOf, mostTotals}
 use Rattle.records.specs.Records.{recordOf, trailerOf}
 use Rattle.records.specs.Quantities.{quantityOf}
 use Rattle.reader.specs.Totals.{totalHolds}
@@ -36,7 +36,7 @@ use Rattle.builder.specs.Records.{Head, headerBuilt, builtQuantity, builtTotal,
 use Rattle.builder.specs.Files.{fileOf}
 use Rattle.builder.proofs.Lengths.{trailer-length}
 use Rattle.builder.proofs.Over.{starts, endsPast, starts-over}
-use Rattle.builder.proofs.Rows.{totals-few}
+use Rattle.tables.proofs.Counts.{totals-few}
 use Rattle.kinds.proofs.Forms.{of-form}
 use Rattle.laws.proofs.Every.{every, every-at}
 use Rattle.writer.proofs.Built.{file-trailer, file-quantity}
@@ -121,7 +121,7 @@ module _ (k : Kind) (h : Head) (bodies : List ℕ) where
       rw (
         trailer-is,
         totals-stand k e H (builtTotals k H bodies) t l,
-        tab-at (builtTotal k H bodies) 5 t (omega (arith, totals-few k)),
+        tab-at (builtTotal k H bodies) mostTotals t (omega (arith, totals-few k)),
         lt-ltb t (length (totalsOf k)) l,
         file-quantity k h bodies (at k t .3),
       ) (says-within (at k t .2) (builtQuantity k H bodies (at k t .3)) (total-narrow k t l))

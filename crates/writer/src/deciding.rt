@@ -4,6 +4,7 @@ ghost use Prim.Native.Nat.{_+_, _≤_, _<_};
 ghost use lib.ListN.{length};
 ghost use Rattle.laws.specs.Tabulate.{tabulate};
 ghost use Rattle.kinds.specs.Kinds.{limit};
+ghost use Rattle.tables.specs.Totals.{mostTotals};
 ghost use Rattle.answers.specs.Answers.{firstTold, _then_};
 ghost use Rattle.layout.specs.Judging.{judgeOf};
 ghost use Rattle.records.specs.Records.{recordOf, countOf};
@@ -20,6 +21,7 @@ use kinds::of_files::Kind;
 use kinds::of_files::Role;
 use layout::judging;
 use records::listed;
+use tables::totals::MOST_TOTALS;
 
 // Three records: the header, the data record that was built last, the trailer.
 const FRAME: usize = 3 * Fixed::DEBIT_SIZE;
@@ -27,7 +29,7 @@ const FRAME: usize = 3 * Fixed::DEBIT_SIZE;
 // What is told of the data records, and what they add up to where all are good.
 struct Judged {
     answer: Answer,
-    sums: [u64; 5],
+    sums: [u64; MOST_TOTALS],
 }
 
 // A record of the frame in its role, against the header in front.
@@ -78,10 +80,10 @@ fn data_tells(kind: Kind, bodies: &[u8], n: usize, frame: &mut [u8]) -> Judged
     requires { ⌜ n ≤ limit ⌝ }
     requires { ⌜ 450 ≤ length (now frame) ⌝ }
     ensures { λ r. ⌜ r .answer ≡ firstTold (dataTold kind (recordOf kind (now (frame .entry)) 0) (now (bodies .entry))) n ⌝ }
-    ensures { λ r. ⌜ (r .answer .number ≡ 0 → r .sums ≡ tabulate (sumTo kind (recordOf kind (now (frame .entry)) 0) (now (bodies .entry)) n) 5) ⌝ }
+    ensures { λ r. ⌜ (r .answer .number ≡ 0 → r .sums ≡ tabulate (sumTo kind (recordOf kind (now (frame .entry)) 0) (now (bodies .entry)) n) mostTotals) ⌝ }
     ensures { λ _. ⌜ recordOf kind (now (frame .exit)) 0 ≡ recordOf kind (now (frame .entry)) 0 ⌝ }
 {
-    let mut sums = [0u64; 5];
+    let mut sums = [0u64; MOST_TOTALS];
     let mut i = 0;
     while i < n {
         let answer = record_tells(kind, bodies, i, frame);
@@ -99,7 +101,7 @@ fn data_tells(kind: Kind, bodies: &[u8], n: usize, frame: &mut [u8]) -> Judged
 }
 
 // Builds the trailer behind them, and judges it; then its totals.
-fn trailer_tells(kind: Kind, sums: [u64; 5], n: usize, frame: &mut [u8]) -> Answer
+fn trailer_tells(kind: Kind, sums: [u64; MOST_TOTALS], n: usize, frame: &mut [u8]) -> Answer
     requires { ⌜ n ≤ limit ⌝ }
     requires { ⌜ 450 ≤ length (now frame) ⌝ }
     ensures { λ r. ⌜ r ≡ (trailerTold kind (recordOf kind (now (frame .entry)) 0) sums n then sumsTold kind (trailerBuilt kind (recordOf kind (now (frame .entry)) 0) sums) sums (n + 1)) ⌝ }

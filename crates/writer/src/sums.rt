@@ -3,7 +3,7 @@ ghost use mathlib.Core.Path.{_≡_};
 ghost use Prim.Native.Nat.{ℕ, _+_, _≤_, _<_, _^_};
 ghost use lib.ListN.{length, getD};
 ghost use Rattle.laws.specs.Tabulate.{tabulate};
-ghost use Rattle.tables.specs.Totals.{totalsOf};
+ghost use Rattle.tables.specs.Totals.{totalsOf, mostTotals};
 ghost use Rattle.records.specs.Records.{recordOf, countOf};
 ghost use Rattle.writer.specs.Writing.{worthFor, sumWith, sumTold, sumsTold};
 use answers::told::Answer;
@@ -11,6 +11,7 @@ use kinds::of_files::Kind;
 use numbers::base_ten;
 use records::quantities;
 use tables::totals;
+use tables::totals::MOST_TOTALS;
 use text::parts;
 
 // What record 1 of the frame adds to sum t; 0 where the trailer has fewer totals.
@@ -27,21 +28,21 @@ fn worth_for(kind: Kind, frame: &[u8], t: usize) -> u64
 }
 
 // The sums with record 1 of the frame.
-pub(crate) fn with_record(kind: Kind, frame: &[u8], sums: [u64; 5]) -> [u64; 5]
+pub(crate) fn with_record(kind: Kind, frame: &[u8], sums: [u64; MOST_TOTALS]) -> [u64; MOST_TOTALS]
     requires { ⌜ 3 ≤ countOf kind (now frame) ⌝ }
-    requires { ⌜ ((t : ℕ) → t < 5 → getD sums t 0 ≤ 10 ^ 16) ⌝ }
-    ensures { λ r. ⌜ r ≡ tabulate (sumWith kind (recordOf kind (now (frame .entry)) 1) sums) 5 ⌝ }
+    requires { ⌜ ((t : ℕ) → t < mostTotals → getD sums t 0 ≤ 10 ^ 16) ⌝ }
+    ensures { λ r. ⌜ r ≡ tabulate (sumWith kind (recordOf kind (now (frame .entry)) 1) sums) mostTotals ⌝ }
 {
-    let mut more = [0u64; 5];
+    let mut more = [0u64; MOST_TOTALS];
     let mut t = 0;
-    while t < 5 {
+    while t < MOST_TOTALS {
         more[t] = sums[t] + worth_for(kind, frame, t);
         t += 1;
     }
     more
 }
 
-fn sum_tells(kind: Kind, trailer: &[u8], sums: [u64; 5], number: u64, t: usize) -> Answer
+fn sum_tells(kind: Kind, trailer: &[u8], sums: [u64; MOST_TOTALS], number: u64, t: usize) -> Answer
     requires { ⌜ 120 ≤ length (now trailer) ⌝ }
     requires { ⌜ t < length (totalsOf kind) ⌝ }
     ensures { λ r. ⌜ r ≡ sumTold kind (now (trailer .entry)) sums number t ⌝ }
@@ -54,7 +55,7 @@ fn sum_tells(kind: Kind, trailer: &[u8], sums: [u64; 5], number: u64, t: usize) 
 }
 
 // The first total, by item, that the trailer, record `number`, does not say as it is summed.
-pub(crate) fn sums_tell(kind: Kind, trailer: &[u8], sums: [u64; 5], number: u64) -> Answer
+pub(crate) fn sums_tell(kind: Kind, trailer: &[u8], sums: [u64; MOST_TOTALS], number: u64) -> Answer
     requires { ⌜ 120 ≤ length (now trailer) ⌝ }
     ensures { λ r. ⌜ r ≡ sumsTold kind (now (trailer .entry)) sums number ⌝ }
 {

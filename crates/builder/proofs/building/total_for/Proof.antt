@@ -2,8 +2,8 @@
 use Prim.Native.Nat.{_≤_, _-_}
 use Rattle.laws.proofs.Leasts.{least-start, least-more, least-stop}
 use Rattle.laws.specs.Least.{least}
-use Rattle.tables.specs.Totals.{totalsOf}
-use Rattle.builder.proofs.Rows.{totals-few}
+use Rattle.tables.specs.Totals.{totalsOf, mostTotals}
+use Rattle.tables.proofs.Counts.{totals-few}
 use Rattle.builder.specs.Records.{totalIs, totalFor}
 use borrow.Author.Needs.{needs}
 use borrow.Author.Tests.{eq-eqb, ne-eqb}
@@ -15,7 +15,7 @@ use Rattle.builder.proofs.building.total_for.Statement.{statement}
 use Rattle.builder.proofs.building.total_for.Tie as tie
 
 abbrev Inv-loop : tie.InvT-loop
-Inv-loop kind item sums n t₀ t = (t ≤ n) × (n ≡ length (totalsOf kind)) × (n ≤ 5) × (length sums ≡ 5) × (least (totalIs kind item) t ≡ t)
+Inv-loop kind item sums n t₀ t = (t ≤ n) × (n ≡ length (totalsOf kind)) × (n ≤ mostTotals) × (length sums ≡ mostTotals) × (least (totalIs kind item) t ≡ t)
 
 abbrev μ-loop : tie.MeasureT-loop
 μ-loop kind item sums n t₀ t = n - t

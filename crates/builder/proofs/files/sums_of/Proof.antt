@@ -1,5 +1,6 @@
 -- One total after the other.
 use Prim.Native.Nat.{_≤_, _-_}
+use Rattle.tables.specs.Totals.{mostTotals}
 use Rattle.laws.proofs.Tabs.{tab-start, tab-more, tab-end}
 use Rattle.laws.specs.Tabulate.{tabulate}
 use Rattle.builder.specs.Records.{fileTotal}
@@ -13,10 +14,10 @@ use Rattle.builder.proofs.files.sums_of.Statement.{statement}
 use Rattle.builder.proofs.files.sums_of.Tie as tie
 
 abbrev Inv-loop : tie.InvT-loop
-Inv-loop kind file sums₀ t₀ sums t = (t ≤ 5) × (length sums ≡ 5) × (take t sums ≡ tabulate (fileTotal kind file) t)
+Inv-loop kind file sums₀ t₀ sums t = (t ≤ mostTotals) × (length sums ≡ mostTotals) × (take t sums ≡ tabulate (fileTotal kind file) t)
 
 abbrev μ-loop : tie.MeasureT-loop
-μ-loop kind file sums₀ t₀ sums t = 5 - t
+μ-loop kind file sums₀ t₀ sums t = mostTotals - t
 
 loop-holds : tie.Need-loop-holds Inv-loop μ-loop
 loop-holds c = (search needs, refl, tab-start (fileTotal _ _) [])
@@ -44,7 +45,8 @@ loop-again c =
 returns : tie.Need-returns Inv-loop μ-loop
 returns c =
     let l = c .before .loop in
-    tab-end _ (l .sums) 5 (l .inv .1) (rw (le-antisymm (c .loop-test .left) (l .inv .0)) (l .inv .2))
+    let all : l .t ≡ mostTotals = le-antisymm (l .inv .0) (c .loop-test .left) in
+    tab-end _ (l .sums) mostTotals (l .inv .1) (rw all at (l .inv .2))
 
 pub sums-of-spec : {M : Type 1} → statement M
 sums-of-spec =

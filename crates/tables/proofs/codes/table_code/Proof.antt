@@ -1,66 +1,16 @@
--- The search looks for the code, place by place.
-use Prim.Native.Nat.{_≤_, _-_}
-use Rattle.laws.proofs.Leasts.{least-start, least-more, some-true, some-false}
-use Rattle.laws.specs.Least.{least}
-use Rattle.tables.specs.Codes.{tableCodes, bankCodes, centreCodes, codeIs, isTableCode}
+-- By its place.
+use Rattle.tables.specs.Among.{isAmong}
+use Rattle.tables.specs.Codes.{tableCodes, bankCodes, centreCodes}
 use borrow.Author.Needs.{needs}
-use borrow.Author.Tests.{eq-eqb, ne-eqb}
-use lib.ListN.{getD}
-use mathlib.Core.Path.{_≡_, sym}
-use native.Mathlib.Nat.{le-antisymm}
 use Rattle.tables.proofs.codes.table_code.Statement.{statement}
 use Rattle.tables.proofs.codes.table_code.Tie as tie
 
-abbrev Inv-loop : tie.InvT-loop
-Inv-loop code i₀ i = (i ≤ 48) × (least (codeIs code) i ≡ i)
+place-requires : tie.Need-place-requires
+place-requires c κs = search needs
 
-abbrev μ-loop : tie.MeasureT-loop
-μ-loop code i₀ i = 48 - i
-
-loop-holds : tie.Need-loop-holds Inv-loop μ-loop
-loop-holds c = (search needs, least-start _)
-
-mul-if1 : tie.Need-mul-if1 Inv-loop μ-loop
-mul-if1 c = search needs
-
-array-read-if1 : tie.Need-array-read-if1 Inv-loop μ-loop
-array-read-if1 c = search needs
-
-returns : tie.Need-returns Inv-loop μ-loop
-unfolding isTableCode codeIs tableCodes bankCodes centreCodes
-returns c =
-    let l = c .before .before .loop in
-    sym (some-true (codeIs _) 48 (l .i) (c .before .loop-test .taken) (eq-eqb (getD tableCodes (l .i) 0) _ (c .if1 .taken)))
-
-add-i : tie.Need-add-i Inv-loop μ-loop
-add-i c = search needs
-
-loop-less : tie.Need-loop-less Inv-loop μ-loop
-loop-less c = search needs
-
-loop-again : tie.Need-loop-again Inv-loop μ-loop
-unfolding codeIs tableCodes bankCodes centreCodes
-loop-again c =
-    let l = c .before .before .loop in
-    (search needs, least-more _ (l .i) (l .inv .1) (ne-eqb (getD tableCodes (l .i) 0) _ (c .if1 .left)))
-
-returns-2 : tie.Need-returns-2 Inv-loop μ-loop
-unfolding isTableCode tableCodes bankCodes centreCodes
-returns-2 c =
-    let l = c .before .loop in
-    sym (some-false (codeIs _) 48 (rw (le-antisymm (c .loop-test .left) (l .inv .0)) (l .inv .1)))
+returns : tie.Need-returns
+unfolding isAmong tableCodes bankCodes centreCodes
+returns c = rw (c .place .ensures)
 
 pub table-code-spec : {M : Type 1} → statement M
-table-code-spec =
-    tie.close
-    (tie.spec
-    Inv-loop
-    μ-loop
-    loop-holds
-    mul-if1
-    array-read-if1
-    returns
-    add-i
-    loop-less
-    loop-again
-    returns-2)
+table-code-spec = tie.close (tie.spec place-requires returns)

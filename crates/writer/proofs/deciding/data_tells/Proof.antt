@@ -1,6 +1,7 @@
 -- The loop looks for the first record that breaks a row, and sums up those before it.
 use Prim.Native.Nat.{_≤_, _-_}
 use Rattle.answers.proofs.Refusals.{So-far, told-more, told-stop, told-end, number-of}
+use Rattle.tables.specs.Totals.{mostTotals}
 use Rattle.laws.proofs.Leasts.{least-start}
 use Rattle.laws.specs.Tabulate.{tabulate}
 use Rattle.records.specs.Records.{recordOf}
@@ -16,7 +17,7 @@ use Rattle.writer.proofs.deciding.data_tells.Statement.{statement}
 use Rattle.writer.proofs.deciding.data_tells.Tie as tie
 
 abbrev Inv-loop : tie.InvT-loop
-Inv-loop kind bodies n frame₀ sums₀ i₀ frame sums i = (i ≤ n) × (length frame ≡ length frame₀) × (recordOf kind frame 0 ≡ recordOf kind frame₀ 0) × So-far (dataTold kind (recordOf kind frame₀ 0) bodies) i × (sums ≡ tabulate (sumTo kind (recordOf kind frame₀ 0) bodies i) 5)
+Inv-loop kind bodies n frame₀ sums₀ i₀ frame sums i = (i ≤ n) × (length frame ≡ length frame₀) × (recordOf kind frame 0 ≡ recordOf kind frame₀ 0) × So-far (dataTold kind (recordOf kind frame₀ 0) bodies) i × (sums ≡ tabulate (sumTo kind (recordOf kind frame₀ 0) bodies i) mostTotals)
 
 abbrev μ-loop : tie.MeasureT-loop
 μ-loop kind bodies n frame₀ sums₀ i₀ frame sums i = n - i

@@ -1,5 +1,5 @@
 -- By whether the trailer says the sum.
-use Rattle.builder.proofs.Rows.{totals-few}
+use Rattle.tables.proofs.Counts.{totals-few}
 use Rattle.reader.proofs.Places.{total-inside}
 use Rattle.writer.specs.Writing.{sumTold}
 use native.Mathlib.Omega.{arith}

@@ -1,5 +1,6 @@
 -- One sum after the other.
 use Prim.Native.Nat.{_≤_, _-_}
+use Rattle.tables.specs.Totals.{mostTotals}
 use Rattle.laws.proofs.Tabs.{tab-start, tab-more, tab-end}
 use Rattle.laws.specs.Tabulate.{tabulate}
 use Rattle.records.specs.Records.{recordOf}
@@ -14,10 +15,10 @@ use Rattle.writer.proofs.sums.with_record.Statement.{statement}
 use Rattle.writer.proofs.sums.with_record.Tie as tie
 
 abbrev Inv-loop : tie.InvT-loop
-Inv-loop kind frame sums more₀ t₀ more t = (t ≤ 5) × (length more ≡ 5) × (take t more ≡ tabulate (sumWith kind (recordOf kind frame 1) sums) t)
+Inv-loop kind frame sums more₀ t₀ more t = (t ≤ mostTotals) × (length more ≡ mostTotals) × (take t more ≡ tabulate (sumWith kind (recordOf kind frame 1) sums) t)
 
 abbrev μ-loop : tie.MeasureT-loop
-μ-loop kind frame sums more₀ t₀ more t = 5 - t
+μ-loop kind frame sums more₀ t₀ more t = mostTotals - t
 
 loop-holds : tie.Need-loop-holds Inv-loop μ-loop
 loop-holds c = (search needs, refl, tab-start (sumWith _ _ _) [])
@@ -55,7 +56,8 @@ loop-again c =
 returns : tie.Need-returns Inv-loop μ-loop
 returns c =
     let l = c .before .loop in
-    tab-end _ (l .more) 5 (l .inv .1) (rw (le-antisymm (c .loop-test .left) (l .inv .0)) (l .inv .2))
+    let all : l .t ≡ mostTotals = le-antisymm (l .inv .0) (c .loop-test .left) in
+    tab-end _ (l .more) mostTotals (l .inv .1) (rw all at (l .inv .2))
 
 pub with-record-spec : {M : Type 1} → statement M
 with-record-spec =
