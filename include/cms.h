@@ -47,8 +47,11 @@ extern "C" {
 #endif
 
 /* The last change of this face. 1: the functions of consent evidence came, and no other function changed. 2: those of day
- * files came (cms_day_read, cms_day_body, cms_day_write), and no other function changed. */
-#define CMS_FACE 2
+ * files came (cms_day_read, cms_day_body, cms_day_write), and no other function changed. 3: the answer of cms_outcome has
+ * ten numbers, of which the last is new: who said no. The text of cms_post has the same as one more word on the line of
+ * every request. And every function that reads an EB22 refuses one, with 6, whose trailer item 10 is not the number of "N"
+ * records with a code of the centre; before, any digits did. */
+#define CMS_FACE 3
 
 #define CMS_EB13 UINT32_C(0x45423133)
 #define CMS_EB14 UINT32_C(0x45423134)
@@ -86,9 +89,10 @@ uint64_t cms_pair(uint32_t pair, const uint8_t *request, size_t request_length, 
  *   answer[5] case       0 none, because refused; 1 whole; 2 part; 3 refused by its bank or the centre
  *   answer[6] taken
  *   answer[7] not taken
- *   answer[8] code       the result's code; blank where there is none */
+ *   answer[8] code       the result's code; blank where there is none
+ *   answer[9] maker      who set that code: 0 nobody, because it is blank; 1 a bank; 2 the centre */
 uint64_t cms_outcome(uint32_t pair, const uint8_t *request, size_t request_length, const uint8_t *result,
-                     size_t result_length, uint64_t record, uint64_t answer[9]);
+                     size_t result_length, uint64_t record, uint64_t answer[10]);
 
 /* Data record after data record of one file: record place + 1, or the end when the place is n or more. On a file that
  * is not accepted it answers as cms_read, whatever the place. After the five:

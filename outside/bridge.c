@@ -218,7 +218,7 @@ static function prepared(uint64_t which) {
         to_write(slice()); an_answer(5);
         return call_write;
     case PAIR: slice(); slice(); to_write(slice()); to_write(slice()); an_answer(5); return call_pair;
-    case OUTCOME: slice(); slice(); given = number(); an_answer(9); return call_outcome;
+    case OUTCOME: slice(); slice(); given = number(); an_answer(10); return call_outcome;
     case WALK: slice(); given = number(); an_answer(8); return call_walk;
     case POST: slice(); slice(); to_write(slice()); return call_post;
     case APART: slice(); to_write(slice()); an_answer(6); return call_apart;

@@ -96,7 +96,7 @@ const EB21_TRAILER: Rows =
     "1:0081 2:0081 5:0088 6:0088 7:0088 8:0090 9:0090 10:0089 11:0089 5@3 5@4 6@5 6@6 6@7";
 const EB22_TRAILER: Rows =
     "1:0081 2:0081 5:0088 6:0088 7:0088 8:0088 9:0088 10:0088 11:0090 12:0088 13:0090 14:0089 15:0088 \
-     5@3 5@4 6@5 6@6 6@7 6@8 6@9";
+     5@3 5@4 6@5 6@6 6@7 6@8 6@9 6@10";
 
 // Writing: items 1 to 3 of data records and the trailer are the writer's own,
 // so 5 can't occur there, and 6 only for the sum over 13 digits.

@@ -189,18 +189,32 @@ impl<'a> Record<'a> {
 }
 
 /// Table codes set by banks.
-pub const BANK_CODES: &str = "0012 0014 0015 0017 0018 0019 0020 0021 0022 0024 0031 0032 0033 \
-    0034 0035 0036 0037 0038 0041 0051 0065 0066 A011 A016 A018";
+pub const BANK_CODES: [&[u8; 4]; 25] = [
+    b"0012", b"0014", b"0015", b"0017", b"0018", b"0019", b"0020", b"0021", b"0022", b"0024", b"0031",
+    b"0032", b"0033", b"0034", b"0035", b"0036", b"0037", b"0038", b"0041", b"0051", b"0065", b"0066",
+    b"A011", b"A016", b"A018",
+];
 
 /// Table codes set by the centre.
-pub const CENTRE_CODES: &str = "A012 0011 0061 0062 0068 0075 0077 0078 0079 0081 0087 0088 0089 \
-    0090 0091 0096 0098 0101 0102 0103 0105 9998 9999";
+pub const CENTRE_CODES: [&[u8; 4]; 23] = [
+    b"A012", b"0011", b"0061", b"0062", b"0068", b"0075", b"0077", b"0078", b"0079", b"0081", b"0087",
+    b"0088", b"0089", b"0090", b"0091", b"0096", b"0098", b"0101", b"0102", b"0103", b"0105", b"9998",
+    b"9999",
+];
 
 /// All table codes.
 pub fn table_codes() -> impl Iterator<Item = &'static [u8]> {
-    BANK_CODES.split_ascii_whitespace().chain(CENTRE_CODES.split_ascii_whitespace()).map(str::as_bytes)
+    BANK_CODES.into_iter().chain(CENTRE_CODES).map(|code| &code[..])
+}
+
+pub fn is_bank_code(code: &[u8]) -> bool {
+    BANK_CODES.iter().any(|known| known[..] == *code)
+}
+
+pub fn is_centre_code(code: &[u8]) -> bool {
+    CENTRE_CODES.iter().any(|known| known[..] == *code)
 }
 
 pub fn is_table_code(code: &[u8]) -> bool {
-    table_codes().any(|known| known == code)
+    is_bank_code(code) || is_centre_code(code)
 }

@@ -7,8 +7,8 @@
 //! The reference, of which every function takes any bytes and any numbers, and
 //! none panics:
 //!
-//! * [`model`]: what the treasurer is told: [`Answer`], [`Outcome`], [`Step`], [`EvidencePart`],
-//!   [`DayAnswer`], [`DayBody`];
+//! * [`model`]: what the treasurer is told: [`Answer`], [`Outcome`] with its [`Maker`], [`Step`],
+//!   [`EvidencePart`], [`DayAnswer`], [`DayBody`];
 //! * [`chars`]: characters, numbers and dates;
 //! * `checked`: one record against its rules, item by item;
 //! * [`layout`]: file kinds, pair kinds, item lengths, table codes;
@@ -58,8 +58,8 @@ pub use apart::apart;
 pub use day::{day_body, day_read, day_write};
 pub use evidence::{evidence_compare, evidence_part, evidence_read, evidence_write};
 pub use model::{
-    eight, eight_of_day, eight_of_part, nine, six, ten, Answer, DayAnswer, DayBody, EvidencePart, Outcome,
-    Step,
+    eight, eight_of_day, eight_of_part, six, ten_of_body, ten_of_outcome, Answer, DayAnswer, DayBody,
+    EvidencePart, Maker, Outcome, Step,
 };
 pub use pair::{outcome, pair};
 pub use post::{post, post_into};

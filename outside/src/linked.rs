@@ -33,6 +33,15 @@ extern "C" {
         not_taken_length: usize,
         answer: *mut u64,
     ) -> u64;
+    fn cms_outcome(
+        pair: u32,
+        request: *const u8,
+        request_length: usize,
+        result: *const u8,
+        result_length: usize,
+        record: u64,
+        answer: *mut u64,
+    ) -> u64;
     fn cms_evidence_read(profile: u32, file: *const u8, file_length: usize, answer: *mut u64) -> u64;
     fn cms_evidence_write(
         profile: u32,
@@ -111,6 +120,23 @@ pub fn pair(
             taken.len(),
             not_taken.as_mut_ptr(),
             not_taken.len(),
+            answer.as_mut_ptr(),
+        )
+    };
+    answer
+}
+
+pub fn outcome(pair: u32, request: &[u8], result: &[u8], record: u64) -> [u64; 10] {
+    let mut answer = [0; 10];
+    // Safe: each pointer is good for the length that stands beside it, till the call returns.
+    unsafe {
+        cms_outcome(
+            pair,
+            request.as_ptr(),
+            request.len(),
+            result.as_ptr(),
+            result.len(),
+            record,
             answer.as_mut_ptr(),
         )
     };

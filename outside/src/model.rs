@@ -1,5 +1,7 @@
 //! What the treasurer is told.
 
+use crate::layout::{is_bank_code, is_centre_code};
+
 /// The code of every answer that has none to give.
 pub const NO_CODE: [u8; 4] = *b"0000";
 
@@ -61,6 +63,37 @@ pub fn code_number(code: &[u8; 4]) -> u64 {
     u64::from(u32::from_be_bytes(*code))
 }
 
+/// Who said no.
+#[derive(Clone, Copy, Debug, PartialEq, Eq, Hash, PartialOrd, Ord)]
+pub enum Maker {
+    /// Nobody is named: there is no code.
+    None,
+    Bank,
+    Centre,
+}
+
+impl Maker {
+    /// Who sets the code, by the two lists; a blank code stands in neither.
+    pub fn of(code: &[u8; 4]) -> Maker {
+        if is_bank_code(code) {
+            Maker::Bank
+        } else if is_centre_code(code) {
+            Maker::Centre
+        } else {
+            Maker::None
+        }
+    }
+
+    /// Its number in the C face.
+    pub fn number(self) -> u64 {
+        match self {
+            Maker::None => 0,
+            Maker::Bank => 1,
+            Maker::Centre => 2,
+        }
+    }
+}
+
 /// What became of one request.
 #[derive(Clone, Copy, Debug, PartialEq, Eq, Hash)]
 pub enum Outcome {
@@ -107,6 +140,11 @@ impl Outcome {
             Outcome::None | Outcome::Whole { .. } => BLANK_CODE,
             Outcome::Part { code, .. } | Outcome::Refused { code, .. } => code,
         }
+    }
+
+    /// Who set the result's code.
+    pub fn maker(&self) -> Maker {
+        Maker::of(&self.code())
     }
 }
 
@@ -186,8 +224,8 @@ pub fn six(answer: &Answer, length: u64) -> [u64; 6] {
     [side, number, record, item, code, length]
 }
 
-/// The nine numbers of `cms_outcome`.
-pub fn nine(answer: &Answer, outcome: &Outcome) -> [u64; 9] {
+/// The ten numbers of `cms_outcome`.
+pub fn ten_of_outcome(answer: &Answer, outcome: &Outcome) -> [u64; 10] {
     let [side, number, record, item, code] = answer.five();
     [
         side,
@@ -199,6 +237,7 @@ pub fn nine(answer: &Answer, outcome: &Outcome) -> [u64; 9] {
         outcome.taken(),
         outcome.not_taken(),
         code_number(&outcome.code()),
+        outcome.maker().number(),
     ]
 }
 
@@ -232,7 +271,7 @@ pub fn eight_of_day(answer: &DayAnswer, last: u64) -> [u64; 8] {
 }
 
 /// The ten numbers of `cms_day_body`.
-pub fn ten(answer: &DayAnswer, body: &DayBody) -> [u64; 10] {
+pub fn ten_of_body(answer: &DayAnswer, body: &DayBody) -> [u64; 10] {
     let [case, start, length] = match *body {
         DayBody::None => [0, 0, 0],
         DayBody::Body { start, length, .. } => [1, start, length],

@@ -1,7 +1,7 @@
 //! The posting program: what it prints for the two files of a debit.
 
 use crate::layout::PairKind;
-use crate::model::{Answer, Outcome, BLANK_CODE};
+use crate::model::{Answer, Maker, Outcome, BLANK_CODE};
 use crate::pair::settle;
 
 /// A file longer than this is 3 on its side, before all else.
@@ -46,12 +46,13 @@ fn accepted_lines(outcomes: &[Outcome]) -> Vec<u8> {
     let mut text = format!("accepted {} {asked} {taken} {not_taken}\n", outcomes.len());
     for (before, outcome) in outcomes.iter().enumerate() {
         text += &format!(
-            "{} {} {} {} {}\n",
+            "{} {} {} {} {} {}\n",
             before + 1,
             word(outcome),
             outcome.taken(),
             outcome.not_taken(),
             printed(outcome.code()),
+            named(outcome.maker()),
         );
     }
     text.into_bytes()
@@ -85,5 +86,14 @@ fn printed(code: [u8; 4]) -> String {
         "----".to_string()
     } else {
         code.escape_ascii().to_string()
+    }
+}
+
+/// The last word of a request's line.
+fn named(maker: Maker) -> &'static str {
+    match maker {
+        Maker::None => "----",
+        Maker::Bank => "bank",
+        Maker::Centre => "centre",
     }
 }

@@ -80,7 +80,7 @@ impl Call {
 
     pub fn outcome(pair: u32, request: &[u8], result: &[u8], record: u64) -> Call {
         let files = Call::of(&OUTCOME).number(pair.into()).slice(request).slice(result);
-        files.number(record).answer(9)
+        files.number(record).answer(10)
     }
 
     pub fn walk(kind: u32, file: &[u8], place: u64) -> Call {
@@ -155,8 +155,8 @@ pub fn pair(
     kept(told(&said))
 }
 
-/// The answer of the proved outcome: the five, then case, taken, not taken, code.
-pub fn outcome(pair: u32, request: &[u8], result: &[u8], record: u64) -> [u64; 9] {
+/// The answer of the proved outcome: the five, then case, taken, not taken, code, maker.
+pub fn outcome(pair: u32, request: &[u8], result: &[u8], record: u64) -> [u64; 10] {
     kept(ask(&Call::outcome(pair, request, result, record)).and_then(|said| told(&said)))
 }
 

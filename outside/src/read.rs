@@ -6,7 +6,7 @@ use crate::chars::{
     spaces,
 };
 use crate::checked::Checked;
-use crate::layout::{is_table_code, Kind, PairKind, Record, MOST_RECORDS};
+use crate::layout::{is_centre_code, is_table_code, Kind, PairKind, Record, MOST_RECORDS};
 use crate::model::Answer;
 use std::collections::HashSet;
 
@@ -234,6 +234,7 @@ pub fn totals(kind: Kind, data: &[Record]) -> Vec<(usize, u64)> {
             (7, sum(data, |record| mark(record) == b'N')),
             (8, count(data, |record| mark(record) == b'P')),
             (9, sum(data, |record| mark(record) == b'P')),
+            (10, count(data, failed_by_centre)),
         ],
     }
 }
@@ -255,6 +256,11 @@ pub fn amount(debit: &Record) -> u64 {
 /// The mark of a debit result.
 pub fn mark(debit: &Record) -> u8 {
     debit.item(8)[0]
+}
+
+/// "N" and a code of the centre; a part that was taken does not count, whoever set its code.
+fn failed_by_centre(debit: &Record) -> bool {
+    mark(debit) == b'N' && is_centre_code(&debit.item(8)[1..])
 }
 
 /// Number 7: the smallest record number that repeats an earlier key.

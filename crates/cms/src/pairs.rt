@@ -3,7 +3,7 @@ ghost use mathlib.Core.Path.{_≡_};
 ghost use lib.ListN.{length};
 ghost use Rattle.pair.specs.Pairing.{pairTold, takenAfter, notTakenAfter};
 ghost use Rattle.outcomes.specs.Outcomes.{outcomeTold};
-ghost use Rattle.telling.specs.Numbers.{five, nine};
+ghost use Rattle.telling.specs.Numbers.{five, ten};
 use outcomes::asking;
 use pair::pairing;
 use telling::answer::tell;
@@ -35,10 +35,10 @@ pub extern "C" fn cms_outcome(
     request: &[u8],
     result: &[u8],
     record: u64,
-    answer: &mut [u64; 9],
+    answer: &mut [u64; 10],
 ) -> u64
     ensures { λ r. ⌜ r ≡ outcomeTold pair (now (request .entry)) (now (result .entry)) «record» .answer .number ⌝ }
-    ensures { λ _. ⌜ now (answer .exit) ≡ nine (outcomeTold pair (now (request .entry)) (now (result .entry)) «record») ⌝ }
+    ensures { λ _. ⌜ now (answer .exit) ≡ ten (outcomeTold pair (now (request .entry)) (now (result .entry)) «record») ⌝ }
 {
     let told = asking::outcome(pair as u64, request, result, record);
     tell_outcome(told, answer)

@@ -2,6 +2,7 @@
 use answers::told::Answer;
 use libc::STDOUT_FILENO;
 use numbers::base_ten;
+use outcomes::cases;
 use outcomes::cases::Outcome;
 
 pub(crate) fn tell_bytes(bytes: &[u8]) {
@@ -48,7 +49,7 @@ pub(crate) fn tell(name: &[u8], answer: Answer) {
     tell_code(answer.code);
 }
 
-// The outcome by its name, then what it carries.
+// The outcome by its name, then what it carries; the maker by its number.
 pub(crate) fn tell_outcome(outcome: Outcome) {
     match outcome {
         Outcome::None => tell_bytes(b" none"),
@@ -56,16 +57,18 @@ pub(crate) fn tell_outcome(outcome: Outcome) {
             tell_bytes(b" whole");
             tell_number(taken);
         }
-        Outcome::Part(taken, not_taken, code) => {
+        Outcome::Part(taken, not_taken, code, _) => {
             tell_bytes(b" part");
             tell_number(taken);
             tell_number(not_taken);
             tell_code(code);
         }
-        Outcome::Refused(not_taken, code) => {
+        Outcome::Refused(not_taken, code, _) => {
             tell_bytes(b" refused");
             tell_number(not_taken);
             tell_code(code);
         }
     }
+    let numbers = cases::numbers(outcome);
+    tell_number(numbers[4]);
 }

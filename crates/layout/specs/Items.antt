@@ -1,9 +1,9 @@
 -- Items that a rule reads beside its own.
-use Prim.Native.Nat.{ℕ}
+use Prim.Native.Nat.{ℕ, _+_}
 use mathlib.Core.List.{List}
 use lib.ListN.{getD}
 use Rattle.laws.specs.Part.{part}
-use Rattle.numbers.specs.Numbers.{valueOf}
+use Rattle.numbers.specs.Numbers.{valueOf, wordOf}
 use Rattle.tables.specs.declared.copied.Copied.{Copied}
 use Rattle.tables.specs.Places.{datePlace, nameDayPlace, applicationPlace, amountPlace, debitedPlace, typePlace}
 
@@ -25,12 +25,15 @@ nameDay header = bytesAt nameDayPlace header
 abbrev pub applicationOf : List ℕ → ℕ
 applicationOf rec = byteAt applicationPlace rec
 
--- of a debit record: the amount, item 6; the result's mark, in item 8; the type, item 13
+-- of a debit record: the amount, item 6; the result's mark and its code, in item 8; the type, item 13
 abbrev pub amountOf : List ℕ → ℕ
 amountOf rec = valueOf (bytesAt amountPlace rec)
 
 abbrev pub markOf : List ℕ → ℕ
 markOf rec = byteAt debitedPlace rec
+
+abbrev pub codeOf : List ℕ → ℕ
+codeOf rec = wordOf (part (debitedPlace .1 + 1) 4 rec)
 
 abbrev pub typeOf : List ℕ → ℕ
 typeOf rec = byteAt typePlace rec

@@ -24,7 +24,7 @@ use Rattle.pair.proofs.Stages.{by-result}
 use Rattle.pair.proofs.Matched.{pair-known}
 use Rattle.pair.proofs.Money.{each-request}
 use Rattle.outcomes.specs.declared.cases.Outcome.the-variants.{None, Whole}
-use Rattle.outcomes.specs.Outcomes.{fourOf, outcomeAt, asksFor, outcomeAs}
+use Rattle.outcomes.specs.Outcomes.{numbersOf, outcomeAt, asksFor, outcomeAs}
 use Rattle.outcomes.specs.Listed.{NoResult, OutcomeSays, Paid}
 use Rattle.outcomes.proofs.Outcome.{asks-for-is, one-outcome}
 
@@ -68,7 +68,7 @@ module _ (p : PairKind) (q r : List ℕ) where
   abbrev Whole-says : ℕ → ℕ → Type 0
   Whole-says i taken = NoResult p q r i × ((taken ≡ takenAt p q r i) × (0 ≡ notTakenAt p q r i))
 
-  said-whole : (i taken : ℕ) (l : List ℕ) → OutcomeSays p q r i l → l ≡ fourOf (Whole taken) → Whole-says i taken
+  said-whole : (i taken : ℕ) (l : List ℕ) → OutcomeSays p q r i l → l ≡ numbersOf (Whole taken) → Whole-says i taken
   said-whole i taken l (OutcomeSays.whole n) e = (n, (cc, cc))
   said-whole i taken l (OutcomeSays.part j x m) e = absurd (let z : _≡_ {A = ℕ} 2 1 = cc in omega arith)
   said-whole i taken l (OutcomeSays.refused j x m) e = absurd (let z : _≡_ {A = ℕ} 3 1 = cc in omega arith)
@@ -94,7 +94,7 @@ module _ (p : PairKind) (q r : List ℕ) where
             let z = refuses-zero (pairBy p q r true) f in
             let asked = asks-for-is (dataOf (requestKind p) q) rec t in
             let below : rec - 1 < dataOf (requestKind p) q = omega (arith, asked .0, asked .1) in
-            let says = said-whole (rec - 1) taken _ (one-outcome p q r true z (rec - 1) below) (ap fourOf w) in
+            let says = said-whole (rec - 1) taken _ (one-outcome p q r true z (rec - 1) below) (ap numbersOf w) in
             record {
               pair = z;
               first = asked .0;

@@ -11,6 +11,7 @@ use lib.Dec.{leb, ltb}
 use lib.ListN.{getD}
 use Rattle.laws.proofs.Bools.{and-left, and-right, either}
 use Rattle.kinds.specs.declared.of_files.Kind.{Kind}
+use Rattle.tables.specs.Makers.{makerOf, makerNumber}
 use Rattle.kinds.specs.Kinds.{limit}
 use Rattle.answers.specs.declared.told.Answer.{Answer}
 use Rattle.answers.specs.Answers.{accepted}
@@ -30,12 +31,12 @@ use Rattle.pair.specs.Pairing.{pairBy, pairAs, listAfter}
 use Rattle.pair.proofs.Lent.{list-at}
 use Rattle.pair.proofs.Keys.{result-found, result-none}
 use Rattle.pair.proofs.Matched.{Paired, pair-known, lent-pair, result-met}
-use Rattle.outcomes.specs.Outcomes.{fourOf, told, failedBy, outcomeAt, asksFor, outcomeAs}
+use Rattle.outcomes.specs.Outcomes.{numbersOf, told, failedBy, outcomeAt, asksFor, outcomeAs}
 use Rattle.outcomes.specs.Listed.{OutcomeSays, Listed}
 
 module _ (p : PairKind) (q r : List ℕ) (i : ℕ) where
   -- request i + 1 has a result, and its mark
-  abbrev answered : Bool
+  abbrev pub answered : Bool
   answered = ltb (resultFor p q r i) (dataOf (resultKind p) r)
 
   abbrev mark : ℕ
@@ -61,7 +62,7 @@ module _ (p : PairKind) (q r : List ℕ) (i : ℕ) where
     none-taken t n = omega (arith, all-left t n)
 
     abbrev Says : Type 0
-    Says = OutcomeSays p q r i (fourOf (outcomeAt p q r i))
+    Says = OutcomeSays p q r i (numbersOf (outcomeAt p q r i))
 
     outcome-says : Says
     unfolding outcomeAt failedBy
@@ -73,7 +74,7 @@ module _ (p : PairKind) (q r : List ℕ) (i : ℕ) where
         refused : answered ≡ true → mark ≡ 0x4E → Says
         refused t m =
             let code = codeIn p (resultAt p r (resultFor p q r i)) in
-            let s : OutcomeSays p q r i (3 ∷ takenAt p q r i ∷ notTakenAt p q r i ∷ code ∷ []) = OutcomeSays.refused (resultFor p q r i) (result-found p q r i h (ltb-true _ _ t)) m in
+            let s : OutcomeSays p q r i (3 ∷ takenAt p q r i ∷ notTakenAt p q r i ∷ code ∷ makerNumber (makerOf code) ∷ []) = OutcomeSays.refused (resultFor p q r i) (result-found p q r i h (ltb-true _ _ t)) m in
             rw (t, ne-eqb mark 0x50 (λ z. absurd (omega arith))) (rw (none-taken t m) at s)
 
         some : answered ≡ true → Says
@@ -81,13 +82,13 @@ module _ (p : PairKind) (q r : List ℕ) (i : ℕ) where
 
         none : answered ≡ false → Says
         none f =
-            let s : OutcomeSays p q r i (1 ∷ takenAt p q r i ∷ notTakenAt p q r i ∷ 0x20202020 ∷ []) = OutcomeSays.whole (result-none p q r i (ltb-false _ _ f)) in
+            let s : OutcomeSays p q r i (1 ∷ takenAt p q r i ∷ notTakenAt p q r i ∷ 0x20202020 ∷ 0 ∷ []) = OutcomeSays.whole (result-none p q r i (ltb-false _ _ f)) in
             rw f (rw (all-taken f, none-left f) at s)
 
--- *One outcome*: the amounts are the lists', the code is the result's, and the case is what the result's mark says
+-- *One outcome*: the amounts are the lists', the code and its maker are the result's, and the case is what the result's mark says
 pub one-outcome :
     (p : PairKind) (q r : List ℕ) (fits : Bool) → pairBy p q r fits .number ≡ 0 →
-    (i : ℕ) → i < dataOf (requestKind p) q → OutcomeSays p q r i (fourOf (outcomeAt p q r i))
+    (i : ℕ) → i < dataOf (requestKind p) q → OutcomeSays p q r i (numbersOf (outcomeAt p q r i))
 one-outcome p q r fits e i h = outcome-says p q r i (pair-known p q r fits e) h
 
 -- the amounts alone

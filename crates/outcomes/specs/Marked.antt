@@ -10,19 +10,19 @@ use Rattle.reader.specs.Reading.{readOf}
 use Rattle.reader.specs.Samples.{all, blanks, emptyOn}
 use Rattle.pair.specs.Pairing.{pairTold}
 use Rattle.outcomes.specs.declared.cases.Told.{Told}
-use Rattle.outcomes.specs.Outcomes.{fourOf, outcomeTold}
+use Rattle.outcomes.specs.Outcomes.{numbersOf, outcomeTold}
 use Rattle.outcomes.specs.Samples.{account, requestFile, resultFile}
 
 pub record Case : Type 0 where
   pub said : List ℕ
   pub paper : List ℕ
 
--- an answer's five numbers: side, number, record, item, code; an outcome has four more
+-- an answer's five numbers: side, number, record, item, code; an outcome has five more
 abbrev pub fiveOf : Answer → List ℕ
 fiveOf a = a .side ∷ a .number ∷ a .rec ∷ a .item ∷ a .code ∷ []
 
-abbrev pub nineOf : Told → List ℕ
-nineOf t = fiveOf (t .answer) ++ fourOf (t .outcome)
+abbrev pub tenOf : Told → List ℕ
+tenOf t = fiveOf (t .answer) ++ numbersOf (t .outcome)
 
 -- EB21 files are read: one record with the account, the amount and the type; no record, for a day; any bytes
 unfoldable pub ofFile : List ℕ → List ℕ
@@ -46,7 +46,7 @@ unfoldable pub ofPair : ℕ → ℕ → List ℕ
 ofPair mark amount = fiveOf (pairTold 0x45423231 request (resultFile mark amount 2) 1 1)
 
 unfoldable pub ofRequest : ℕ → ℕ → List ℕ
-ofRequest mark amount = nineOf (outcomeTold 0x45423231 request (resultFile mark amount 2) 1)
+ofRequest mark amount = tenOf (outcomeTold 0x45423231 request (resultFile mark amount 2) 1)
 
 -- 1234567890, a space and 12345
 unfoldable pub brokenAccount : List ℕ
@@ -55,7 +55,7 @@ brokenAccount = all (digitsOf 10 1234567890 ∷ blanks 1 ∷ digitsOf 5 12345 �
 abbrev pub good : List ℕ
 good = 0 ∷ 0 ∷ 0 ∷ 0 ∷ 0x30303030 ∷ []
 
--- cases 1 to 12; 9 is "P", then taken 1,000 and not taken 19,000 with the code; 12 is two: 300 bytes and n = 0, and the
+-- cases 1 to 12; 9 is "P", then taken 1,000 and not taken 19,000 with the code, a bank's; 12 is two: 300 bytes and n = 0, and the
 -- first 150 of them
 unfoldable pub cases : List Case
 cases =
@@ -67,7 +67,7 @@ cases =
     record { said = ofRecord brokenAccount 10000 0; paper = 0 ∷ 4 ∷ 1 ∷ 5 ∷ 0x30303938 ∷ [] } ∷
     record { said = ofDay 24 229; paper = good } ∷
     record { said = ofDay 23 229; paper = 0 ∷ 4 ∷ 0 ∷ 5 ∷ 0x39393938 ∷ [] } ∷
-    record { said = ofRequest 0x50 19000; paper = good ++ (2 ∷ 1000 ∷ 19000 ∷ 0x30303231 ∷ []) } ∷
+    record { said = ofRequest 0x50 19000; paper = good ++ (2 ∷ 1000 ∷ 19000 ∷ 0x30303231 ∷ 1 ∷ []) } ∷
     record { said = ofPair 0x50 19001; paper = 0 ∷ 14 ∷ 1 ∷ 6 ∷ 0x30303030 ∷ [] } ∷
     record { said = ofPair 0x4E 19999; paper = 0 ∷ 14 ∷ 1 ∷ 6 ∷ 0x30303030 ∷ [] } ∷
     record { said = ofSized (emptyOn EB21 24 229); paper = 300 ∷ 0 ∷ good } ∷

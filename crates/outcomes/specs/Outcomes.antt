@@ -1,4 +1,4 @@
--- One request's outcome: whole, part with amounts, or refused with its code.
+-- One request's outcome: whole, part with amounts, or refused with its code; and who set the code.
 use Prim.Native.Nat.{ℕ, _+_, _-_}
 use mathlib.Core.Bool.{Bool, true, cond, _&&_}
 use mathlib.Core.List.{List, [], _∷_}
@@ -6,6 +6,9 @@ use lib.Dec.{leb, ltb, eqb}
 use Rattle.answers.specs.declared.told.Answer.{Answer}
 use Rattle.answers.specs.Answers.{accepted, refused, refuses}
 use Rattle.records.specs.Records.{recordOf, dataOf}
+use Rattle.tables.specs.declared.makers.Maker.{Maker}
+use Rattle.tables.specs.declared.makers.Maker.the-variants as makers
+use Rattle.tables.specs.Makers.{makerOf, makerNumber}
 use Rattle.kinds.specs.declared.of_pairs.PairKind.{PairKind}
 use Rattle.kinds.specs.declared.of_pairs.PairNamed.{PairNamed}
 use Rattle.kinds.specs.declared.of_pairs.PairNamed.the-variants.{Is, Unknown}
@@ -18,19 +21,27 @@ use Rattle.outcomes.specs.declared.cases.Outcome.{Outcome}
 use Rattle.outcomes.specs.declared.cases.Outcome.the-variants.{None, Whole, Part, Refused}
 use Rattle.outcomes.specs.declared.cases.Told.{Told}
 
--- the paper's numbers of each case: the case, taken, not taken, and the result's code, four spaces where there is none
-abbrev pub fourOf : Outcome → List ℕ
-fourOf None = 0 ∷ 0 ∷ 0 ∷ 0x20202020 ∷ []
-fourOf (Whole taken) = 1 ∷ taken ∷ 0 ∷ 0x20202020 ∷ []
-fourOf (Part taken notTaken code) = 2 ∷ taken ∷ notTaken ∷ code ∷ []
-fourOf (Refused notTaken code) = 3 ∷ 0 ∷ notTaken ∷ code ∷ []
+-- who set the code; none where there is no code
+abbrev pub makerIn : Outcome → Maker
+makerIn None = makers.None
+makerIn (Whole taken) = makers.None
+makerIn (Part taken notTaken code maker) = maker
+makerIn (Refused notTaken code maker) = maker
+
+-- the paper's numbers of each case: the case, taken, not taken, the result's code, four spaces where there is none, and its maker
+abbrev pub numbersOf : Outcome → List ℕ
+numbersOf None = 0 ∷ 0 ∷ 0 ∷ 0x20202020 ∷ 0 ∷ []
+numbersOf (Whole taken) = 1 ∷ taken ∷ 0 ∷ 0x20202020 ∷ 0 ∷ []
+numbersOf (Part taken notTaken code maker) = 2 ∷ taken ∷ notTaken ∷ code ∷ makerNumber maker ∷ []
+numbersOf (Refused notTaken code maker) = 3 ∷ 0 ∷ notTaken ∷ code ∷ makerNumber maker ∷ []
 
 abbrev pub told : Answer → Outcome → Told
 told a o = record { answer = a; outcome = o }
 
--- "P" is a part, else the whole was refused
+-- "P" is a part, else the whole was refused; the code says who did
 unfoldable pub failedBy : PairKind → List ℕ → ℕ → ℕ → Outcome
-failedBy p rec taken notTaken = cond (eqb (markIn p rec) 0x50) (Part taken notTaken (codeIn p rec)) (Refused notTaken (codeIn p rec))
+failedBy p rec taken notTaken =
+    cond (eqb (markIn p rec) 0x50) (Part taken notTaken (codeIn p rec) (makerOf (codeIn p rec))) (Refused notTaken (codeIn p rec) (makerOf (codeIn p rec)))
 
 -- the outcome of request i + 1
 unfoldable pub outcomeAt : PairKind → List ℕ → List ℕ → ℕ → Outcome

@@ -18,6 +18,7 @@ use matching::lookup;
 use numbers::base_ten;
 use pair::pairing;
 use records::listed;
+use tables::makers;
 use text::parts;
 
 // Where a result's mark stands in its record; its code follows.
@@ -34,10 +35,11 @@ fn failed_by(pair: PairKind, rec: &[u8], taken: u64, not_taken: u64) -> Outcome
 {
     let mark = mark_start(pair);
     let code = base_ten::word(parts::part(rec, mark + 1, 4));
+    let maker = makers::maker_of(code);
     if parts::byte(rec, mark) == b'P' {
-        return Outcome::Part(taken, not_taken, code);
+        return Outcome::Part(taken, not_taken, code, maker);
     }
-    Outcome::Refused(not_taken, code)
+    Outcome::Refused(not_taken, code, maker)
 }
 
 // The outcome of request i + 1, whose result, if it has one, is j + 1.

@@ -16,7 +16,7 @@ use Rattle.laws.proofs.Sums.{sum-same, sum-add, sum-along}
 use Rattle.numbers.specs.Numbers.{valueOf}
 use Rattle.kinds.specs.declared.of_files.Own.{Own}
 use Rattle.tables.specs.declared.totals.Quantity.{Quantity}
-use Rattle.tables.specs.declared.totals.Quantity.the-variants.{Records, OfKind, AmountsMarked}
+use Rattle.tables.specs.declared.totals.Quantity.the-variants.{Records, OfKind, AmountsMarked, MarkedByCentre}
 use Rattle.tables.specs.Tables.{trailerFront, enrolmentTrailer, enrolmentRequestTrailer, enrolmentResultTrailer, debitRequestTrailer, debitResultTrailer}
 use Rattle.tables.specs.Places.{placeIn}
 use Rattle.tables.specs.Totals.{noTotal, enrolmentTotals, debitRequestTotals, debitResultTotals, totalsOf}
@@ -104,6 +104,11 @@ module _ (a b : Own) where
     pub debit-part : sum (failedAs debit q r (AmountsMarked 0x50)) (dataOf (requestKind debit) q) ≡ trailerSays (resultKind debit) 9 r
     unfolding debitResultTotals trailerSays placeIn trailerFront debitResultTrailer
     debit-part = result-totals debit q r fits e 4 (omega arith)
+
+    -- how many "N" results have a centre's code: item 10
+    pub debit-centre : sum (failedAs debit q r (MarkedByCentre 0x4E)) (dataOf (requestKind debit) q) ≡ trailerSays (resultKind debit) 10 r
+    unfolding debitResultTotals trailerSays placeIn trailerFront debitResultTrailer
+    debit-centre = result-totals debit q r fits e 5 (omega arith)
 
     -- a result is one or the other
     either-mark : (i : ℕ) → notTakenAt debit q r i ≡ failedAs debit q r (AmountsMarked 0x4E) i + failedAs debit q r (AmountsMarked 0x50) i

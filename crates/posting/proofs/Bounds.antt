@@ -21,42 +21,50 @@ use Rattle.answers.specs.declared.told.Answer.{Answer}
 use Rattle.answers.specs.Answers.{refuses}
 use Rattle.answers.proofs.Refusals.{refuses-zero}
 use Rattle.records.specs.Records.{dataOf}
+use Rattle.tables.specs.declared.makers.Maker.{Maker}
+use Rattle.tables.specs.declared.makers.Maker.the-variants as makers
 use Rattle.outcomes.specs.declared.cases.Outcome.{Outcome}
 use Rattle.outcomes.specs.declared.cases.Outcome.the-variants.{None, Whole, Part, Refused}
 use Rattle.outcomes.specs.declared.sums.Sums.{Sums}
-use Rattle.outcomes.specs.Outcomes.{fourOf}
+use Rattle.outcomes.specs.Outcomes.{makerIn, numbersOf}
 use Rattle.posting.specs.Decimal.{lastLeft, widthOf}
-use Rattle.posting.specs.Lines.{numberThen, codeLine, acceptedWord, refusedWord, wholeWord, partWord, wordFor, refusalLine, acceptedLine, requestLine}
+use Rattle.posting.specs.Lines.{numberThen, codeThen, acceptedWord, refusedWord, wholeWord, partWord, wordFor, noneEnd, bankEnd, centreEnd, makerEnd, refusalLine, acceptedLine, requestLine, lineMost}
 use Rattle.posting.specs.Posting.{longest, postTells, lineAt, acceptedText, postText, postSize, postAfter}
 use Rattle.posting.proofs.Widths.{number-length}
 use Rattle.posting.proofs.Posted.{size-fits, after-fits, posted-known}
 
--- a number of at most 20 digits and what follows it; a code and a line end
+-- a number of at most 20 digits and what follows it; a code and what follows it
 number-most : (n end : ℕ) → length (numberThen n end) ≤ 21
 unfolding widthOf
 number-most n end = omega (arith, number-length n end (widthOf n) refl, least-is (lastLeft n) 19 .within)
 
-code-five : (code : ℕ) → length (codeLine code) ≡ 5
-unfolding codeLine tabulate
-code-five code = elim (eqb code 0x20202020) as (λ b. length (cond b (tabulate (letterOf 0x2D2D2D2D) 4) (tabulate (letterOf code) 4) ++ (0x0A ∷ [])) ≡ 5) [ true ↦ refl | false ↦ refl ]
+code-five : (code end : ℕ) → length (codeThen code end) ≡ 5
+unfolding codeThen tabulate
+code-five code end = elim (eqb code 0x20202020) as (λ b. length (cond b (tabulate (letterOf 0x2D2D2D2D) 4) (tabulate (letterOf code) 4) ++ (end ∷ [])) ≡ 5) [ true ↦ refl | false ↦ refl ]
 
 word-most : (o : Outcome) → length (wordFor o) ≤ 8
 unfolding wholeWord partWord refusedWord
 word-most None = omega arith
 word-most (Whole taken) = omega arith
-word-most (Part taken notTaken code) = omega arith
-word-most (Refused notTaken code) = omega arith
+word-most (Part taken notTaken code maker) = omega arith
+word-most (Refused notTaken code maker) = omega arith
+
+maker-most : (m : Maker) → length (makerEnd m) ≤ 7
+unfolding noneEnd bankEnd centreEnd
+maker-most makers.None = omega arith
+maker-most makers.Bank = omega arith
+maker-most makers.Centre = omega arith
 
 -- each line
 refusal-most : (a : Answer) → length (refusalLine a) ≤ 100
 unfolding refusalLine refusedWord
 refusal-most a =
     rw (
-      length-append (numberThen (a .side) 0x20) (numberThen (a .number) 0x20 ++ (numberThen (a .rec) 0x20 ++ (numberThen (a .item) 0x20 ++ codeLine (a .code)))),
-      length-append (numberThen (a .number) 0x20) (numberThen (a .rec) 0x20 ++ (numberThen (a .item) 0x20 ++ codeLine (a .code))),
-      length-append (numberThen (a .rec) 0x20) (numberThen (a .item) 0x20 ++ codeLine (a .code)),
-      length-append (numberThen (a .item) 0x20) (codeLine (a .code)),
-      code-five (a .code),
+      length-append (numberThen (a .side) 0x20) (numberThen (a .number) 0x20 ++ (numberThen (a .rec) 0x20 ++ (numberThen (a .item) 0x20 ++ codeThen (a .code) 0x0A))),
+      length-append (numberThen (a .number) 0x20) (numberThen (a .rec) 0x20 ++ (numberThen (a .item) 0x20 ++ codeThen (a .code) 0x0A)),
+      length-append (numberThen (a .rec) 0x20) (numberThen (a .item) 0x20 ++ codeThen (a .code) 0x0A),
+      length-append (numberThen (a .item) 0x20) (codeThen (a .code) 0x0A),
+      code-five (a .code) 0x0A,
     )
     (omega (arith, number-most (a .side) 0x20, number-most (a .number) 0x20, number-most (a .rec) 0x20, number-most (a .item) 0x20))
 
@@ -70,20 +78,22 @@ accepted-most n s =
     )
     (omega (arith, number-most n 0x20, number-most (s .asked) 0x20, number-most (s .taken) 0x20, number-most (s .«not_taken») 0x0A))
 
-request-most : (n : ℕ) (o : Outcome) → length (requestLine n o) ≤ 80
+request-most : (n : ℕ) (o : Outcome) → length (requestLine n o) ≤ lineMost
 unfolding requestLine
 request-most n o =
-    let a = getD (fourOf o) 1 0 in
-    let b = getD (fourOf o) 2 0 in
-    let c = getD (fourOf o) 3 0 in
+    let a = getD (numbersOf o) 1 0 in
+    let b = getD (numbersOf o) 2 0 in
+    let c = codeThen (getD (numbersOf o) 3 0) 0x20 in
+    let m = makerEnd (makerIn o) in
     rw (
-      length-append (numberThen n 0x20) (wordFor o ++ (numberThen a 0x20 ++ (numberThen b 0x20 ++ codeLine c))),
-      length-append (wordFor o) (numberThen a 0x20 ++ (numberThen b 0x20 ++ codeLine c)),
-      length-append (numberThen a 0x20) (numberThen b 0x20 ++ codeLine c),
-      length-append (numberThen b 0x20) (codeLine c),
-      code-five c,
+      length-append (numberThen n 0x20) (wordFor o ++ (numberThen a 0x20 ++ (numberThen b 0x20 ++ (c ++ m)))),
+      length-append (wordFor o) (numberThen a 0x20 ++ (numberThen b 0x20 ++ (c ++ m))),
+      length-append (numberThen a 0x20) (numberThen b 0x20 ++ (c ++ m)),
+      length-append (numberThen b 0x20) (c ++ m),
+      length-append c m,
+      code-five (getD (numbersOf o) 3 0) 0x20,
     )
-    (omega (arith, number-most n 0x20, word-most o, number-most a 0x20, number-most b 0x20))
+    (omega (arith, number-most n 0x20, word-most o, number-most a 0x20, number-most b 0x20, maker-most (makerIn o)))
 
 -- so many lines of at most so many bytes
 joined-most : (f : ℕ → List ℕ) (b n : ℕ) → ((i : ℕ) → length (f i) ≤ b) → length (joined f n) ≤ n * b
@@ -98,7 +108,7 @@ module _ (q r : List ℕ) where
   lines-most : n ≤ limit → length (acceptedText q r) ≤ longest
   unfolding acceptedText lineAt
   lines-most few =
-      let lines : length (joined (lineAt q r) n) ≤ limit * 80 = omega (arith, joined-most (lineAt q r) 80 n (λ i. request-most (i + 1) _)) in
+      let lines : length (joined (lineAt q r) n) ≤ limit * lineMost = omega (arith, joined-most (lineAt q r) lineMost n (λ i. request-most (i + 1) _)) in
       rw length-append (add-le-add (accepted-most n _) lines)
 
   -- *The text is bounded*: of any two files it is no longer than `longest`, so a buffer of that size always holds it

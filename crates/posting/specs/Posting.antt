@@ -14,7 +14,7 @@ use Rattle.kinds.specs.Pairs.{debitPair}
 use Rattle.pair.specs.Pairing.{onSide, pairBy}
 use Rattle.outcomes.specs.Outcomes.{outcomeAt}
 use Rattle.outcomes.specs.Sums.{sumsOf}
-use Rattle.posting.specs.Lines.{refusalLine, acceptedLine, requestLine}
+use Rattle.posting.specs.Lines.{refusalLine, acceptedLine, requestLine, lineMost}
 
 -- the longest file that the program takes
 abbrev pub most : ℕ
@@ -22,7 +22,7 @@ most = 64800
 
 -- room for the longest text: a first line, and a line for each request
 abbrev pub longest : ℕ
-longest = 100 + limit * 80
+longest = 100 + limit * lineMost
 
 -- 3 on its side where a file is longer, the request first
 unfoldable pub sizeTells : ℕ → List ℕ → Answer

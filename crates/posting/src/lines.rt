@@ -2,13 +2,17 @@
 ghost use mathlib.Core.Path.{_≡_};
 ghost use Prim.Native.Nat.{_+_, _≤_};
 ghost use lib.ListN.{length};
-ghost use Rattle.posting.specs.Lines.{wordFor, refusalLine, acceptedLine, requestLine};
+ghost use Rattle.posting.specs.Lines.{wordFor, makerEnd, refusalLine, acceptedLine, requestLine, lineMost};
 ghost use Rattle.laws.specs.Stored.{stored};
 use crate::puts;
 use answers::told::Answer;
 use outcomes::cases;
 use outcomes::cases::Outcome;
 use outcomes::sums::Sums;
+use tables::makers::Maker;
+
+// No request's line is longer.
+pub(crate) const LINE: usize = 84;
 
 // refused SIDE NUMBER RECORD ITEM CODE
 pub(crate) fn put_refusal(text: &mut [u8], at: usize, answer: Answer) -> usize
@@ -22,7 +26,7 @@ pub(crate) fn put_refusal(text: &mut [u8], at: usize, answer: Answer) -> usize
     let rec = puts::put_number(text, number, answer.number, b' ');
     let item = puts::put_number(text, rec, answer.rec, b' ');
     let code = puts::put_number(text, item, answer.item, b' ');
-    puts::put_code(text, code, answer.code)
+    puts::put_code(text, code, answer.code, b'\n')
 }
 
 // accepted REQUESTS ASKED TAKEN NOT-TAKEN
@@ -49,22 +53,37 @@ fn put_word(text: &mut [u8], at: usize, outcome: Outcome) -> usize
     match outcome {
         Outcome::None => at,
         Outcome::Whole(_) => puts::put_bytes(text, at, b"whole "),
-        Outcome::Part(_, _, _) => puts::put_bytes(text, at, b"part "),
-        Outcome::Refused(_, _) => puts::put_bytes(text, at, b"refused "),
+        Outcome::Part(_, _, _, _) => puts::put_bytes(text, at, b"part "),
+        Outcome::Refused(_, _, _) => puts::put_bytes(text, at, b"refused "),
     }
 }
 
-// NUMBER OUTCOME TAKEN NOT-TAKEN CODE
+// The last word of a request's line.
+fn put_maker(text: &mut [u8], at: usize, maker: Maker) -> usize
+    requires { ⌜ at + 7 ≤ length (now text) ⌝ }
+    ensures { λ r. ⌜ r ≡ at + length (makerEnd maker) ⌝ }
+    ensures { λ _. ⌜ now (text .exit) ≡ stored at (makerEnd maker) (now (text .entry)) ⌝ }
+    ensures { λ r. ⌜ r ≤ at + 7 ⌝ }
+{
+    match maker {
+        Maker::None => puts::put_bytes(text, at, b"----\n"),
+        Maker::Bank => puts::put_bytes(text, at, b"bank\n"),
+        Maker::Centre => puts::put_bytes(text, at, b"centre\n"),
+    }
+}
+
+// NUMBER OUTCOME TAKEN NOT-TAKEN CODE MAKER
 pub(crate) fn put_request(text: &mut [u8], at: usize, number: u64, outcome: Outcome) -> usize
-    requires { ⌜ at + 80 ≤ length (now text) ⌝ }
+    requires { ⌜ at + lineMost ≤ length (now text) ⌝ }
     ensures { λ r. ⌜ r ≡ at + length (requestLine number outcome) ⌝ }
     ensures { λ _. ⌜ now (text .exit) ≡ stored at (requestLine number outcome) (now (text .entry)) ⌝ }
-    ensures { λ r. ⌜ r ≤ at + 80 ⌝ }
+    ensures { λ r. ⌜ r ≤ at + lineMost ⌝ }
 {
-    let four = cases::four(outcome);
+    let numbers = cases::numbers(outcome);
     let word = puts::put_number(text, at, number, b' ');
     let taken = put_word(text, word, outcome);
-    let not_taken = puts::put_number(text, taken, four[1], b' ');
-    let code = puts::put_number(text, not_taken, four[2], b' ');
-    puts::put_code(text, code, four[3])
+    let not_taken = puts::put_number(text, taken, numbers[1], b' ');
+    let code = puts::put_number(text, not_taken, numbers[2], b' ');
+    let maker = puts::put_code(text, code, numbers[3], b' ');
+    put_maker(text, maker, cases::maker_in(outcome))
 }

@@ -7,6 +7,7 @@ ghost use Rattle.kinds.specs.Kinds.{limit, EB21};
 ghost use Rattle.kinds.specs.Pairs.{debitPair};
 ghost use Rattle.records.specs.Records.{countOf, dataOf};
 ghost use Rattle.matching.specs.Matching.{resultsFor};
+ghost use Rattle.posting.specs.Lines.{lineMost};
 ghost use Rattle.posting.specs.Posting.{longest, sizeTells, postTells, lineAt, acceptedText, postText, postSize, postAfter};
 ghost use Rattle.laws.specs.Stored.{stored};
 use crate::lines;
@@ -25,7 +26,7 @@ use records::listed;
 const MOST: usize = 64_800;
 
 // Room for the longest text: a first line, and a line for each request.
-pub const LONGEST: usize = 100 + LIMIT * 80;
+pub const LONGEST: usize = 100 + LIMIT * lines::LINE;
 
 // 3 on its side where a file is longer.
 fn size_tells(side: u64, file: &[u8]) -> Answer
@@ -70,10 +71,10 @@ fn put_requests(
     requires { ⌜ n ≡ dataOf EB21 (now request) ⌝ }
     requires { ⌜ n ≤ limit ⌝ }
     requires { ⌜ now results ≡ resultsFor debitPair (now request) (now result) ⌝ }
-    requires { ⌜ at + n * 80 ≤ length (now text) ⌝ }
+    requires { ⌜ at + n * lineMost ≤ length (now text) ⌝ }
     ensures { λ r. ⌜ r ≡ at + length (joined (lineAt (now (request .entry)) (now (result .entry))) n) ⌝ }
     ensures { λ _. ⌜ now (text .exit) ≡ stored at (joined (lineAt (now (request .entry)) (now (result .entry))) n) (now (text .entry)) ⌝ }
-    ensures { λ r. ⌜ r ≤ at + n * 80 ⌝ }
+    ensures { λ r. ⌜ r ≤ at + n * lineMost ⌝ }
 {
     let mut place = at;
     let mut i = 0;

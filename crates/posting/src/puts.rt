@@ -3,7 +3,7 @@ ghost use mathlib.Core.Path.{_≡_};
 ghost use Prim.Native.Nat.{_+_, _≤_};
 ghost use lib.ListN.{length};
 ghost use Rattle.posting.specs.Decimal.{widthOf};
-ghost use Rattle.posting.specs.Lines.{numberThen, codeLine};
+ghost use Rattle.posting.specs.Lines.{numberThen, codeThen};
 ghost use Rattle.laws.specs.Stored.{stored};
 use numbers::base_ten;
 use text::parts;
@@ -51,28 +51,28 @@ pub(crate) fn put_number(text: &mut [u8], at: usize, n: u64, end: u8) -> usize
     at + w + 1
 }
 
-// A code's four letters and a line end; a blank code is ----.
-fn code_line(code: u64) -> [u8; 5]
-    ensures { λ r. ⌜ r ≡ codeLine code ⌝ }
+// A code's four letters and what follows it; a blank code is ----.
+fn code_then(code: u64, end: u8) -> [u8; 5]
+    ensures { λ r. ⌜ r ≡ codeThen code end ⌝ }
 {
     if code == 0x2020_2020 {
-        return *b"----\n";
+        return [b'-', b'-', b'-', b'-', end];
     }
     [
         base_ten::letter(code, 0),
         base_ten::letter(code, 1),
         base_ten::letter(code, 2),
         base_ten::letter(code, 3),
-        b'\n',
+        end,
     ]
 }
 
-pub(crate) fn put_code(text: &mut [u8], at: usize, code: u64) -> usize
+pub(crate) fn put_code(text: &mut [u8], at: usize, code: u64, end: u8) -> usize
     requires { ⌜ at + 5 ≤ length (now text) ⌝ }
-    ensures { λ r. ⌜ r ≡ at + length (codeLine code) ⌝ }
-    ensures { λ _. ⌜ now (text .exit) ≡ stored at (codeLine code) (now (text .entry)) ⌝ }
+    ensures { λ r. ⌜ r ≡ at + length (codeThen code end) ⌝ }
+    ensures { λ _. ⌜ now (text .exit) ≡ stored at (codeThen code end) (now (text .entry)) ⌝ }
     ensures { λ r. ⌜ r ≤ at + 5 ⌝ }
 {
-    let line = code_line(code);
-    put_bytes(text, at, &line)
+    let bytes = code_then(code, end);
+    put_bytes(text, at, &bytes)
 }

@@ -5,11 +5,16 @@ ghost use Prim.Native.Nat.{_+_, _≤_, _<_, _^_};
 ghost use lib.Dec.{eqb};
 ghost use lib.ListN.{length};
 ghost use Rattle.kinds.specs.Kinds.{limit};
+ghost use Rattle.layout.specs.Items.{codeOf};
+ghost use Rattle.tables.specs.Makers.{makerOf, byCentre};
 ghost use Rattle.records.specs.Records.{countOf, dataOf};
 ghost use Rattle.records.specs.Quantities.{worth, worthAt, quantityOf};
 use crate::listed;
 use kinds::of_files::Kind;
 use layout::items;
+use numbers::base_ten;
+use tables::makers;
+use tables::makers::Maker;
 use tables::totals::Quantity;
 use text::parts;
 
@@ -22,6 +27,20 @@ fn if_equal(a: u8, b: u8, n: u64) -> u64
         return n;
     }
     0
+}
+
+// 1 where the centre set the code of a debit result, else 0.
+fn by_centre(rec: &[u8]) -> u64
+    requires { ⌜ 120 ≤ length (now rec) ⌝ }
+    ensures { λ r. ⌜ r ≡ byCentre (makerOf (codeOf (now (rec .entry)))) ⌝ }
+    ensures { λ r. ⌜ r ≤ 1 ⌝ }
+{
+    let maker = makers::maker_of(base_ten::word(parts::part(rec, items::MARK + 1, 4)));
+    match maker {
+        Maker::None => 0,
+        Maker::Bank => 0,
+        Maker::Centre => 1,
+    }
 }
 
 // What one data record adds to a quantity.
@@ -40,6 +59,7 @@ fn worth(quantity: Quantity, rec: &[u8]) -> u64
             b,
             items::amount(rec),
         ),
+        Quantity::MarkedByCentre(b) => if_equal(parts::byte(rec, items::MARK), b, by_centre(rec)),
     }
 }
 

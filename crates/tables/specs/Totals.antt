@@ -6,7 +6,7 @@ use Rattle.kinds.specs.declared.of_files.Form.{Form}
 use Rattle.kinds.specs.declared.of_files.Form.the-variants.{EnrolmentRequest, EnrolmentResult, DebitRequest, DebitResult}
 use Rattle.tables.specs.declared.totals.Total.{Total}
 use Rattle.tables.specs.declared.totals.Quantity.{Quantity}
-use Rattle.tables.specs.declared.totals.Quantity.the-variants.{Records, OfKind, Amounts, Marked, AmountsMarked}
+use Rattle.tables.specs.declared.totals.Quantity.the-variants.{Records, OfKind, Amounts, Marked, AmountsMarked, MarkedByCentre}
 
 abbrev pub total : ℕ → ℕ → ℕ → Quantity → Total
 total item start size quantity = record { 0 = item; 1 = start; 2 = size; 3 = quantity }
@@ -31,7 +31,7 @@ debitRequestTotals =
     total 7 43 13 Amounts ∷
     []
 
--- debit result: n; count and sum of "N" records, count and sum of "P" records
+-- debit result: n; count and sum of "N" records, count and sum of "P" records, count of "N" records with a centre's code
 unfoldable pub debitResultTotals : List Total
 debitResultTotals =
     total 5 27 8 Records ∷
@@ -39,6 +39,7 @@ debitResultTotals =
     total 7 43 13 (AmountsMarked 0x4E) ∷
     total 8 56 8 (Marked 0x50) ∷
     total 9 64 13 (AmountsMarked 0x50) ∷
+    total 10 77 8 (MarkedByCentre 0x4E) ∷
     []
 
 abbrev pub totalsFor : Form → List Total
@@ -52,4 +53,4 @@ totalsOf k = totalsFor (k .form)
 
 -- no trailer has more
 abbrev pub mostTotals : ℕ
-mostTotals = 5
+mostTotals = 6

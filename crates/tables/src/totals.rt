@@ -18,13 +18,15 @@ pub enum Quantity {
     Marked(u8),
     // the sum of the amounts of those that have a mark
     AmountsMarked(u8),
+    // how many have a mark and a code that the centre set
+    MarkedByCentre(u8),
 }
 
 // Item, start, length, quantity.
 pub struct Total(pub u64, pub usize, pub usize, pub Quantity);
 
 // No trailer has more.
-pub const MOST_TOTALS: usize = 5;
+pub const MOST_TOTALS: usize = 6;
 
 const ENROLMENT_TOTALS: [Total; 4] = [
     Total(5, 27, 8, Quantity::Records),
@@ -39,12 +41,13 @@ const DEBIT_REQUEST_TOTALS: [Total; 3] = [
     Total(7, 43, 13, Quantity::Amounts),
 ];
 
-const DEBIT_RESULT_TOTALS: [Total; 5] = [
+const DEBIT_RESULT_TOTALS: [Total; 6] = [
     Total(5, 27, 8, Quantity::Records),
     Total(6, 35, 8, Quantity::Marked(b'N')),
     Total(7, 43, 13, Quantity::AmountsMarked(b'N')),
     Total(8, 56, 8, Quantity::Marked(b'P')),
     Total(9, 64, 13, Quantity::AmountsMarked(b'P')),
+    Total(10, 77, 8, Quantity::MarkedByCentre(b'N')),
 ];
 
 fn enrolment_total(i: usize) -> Total
@@ -62,7 +65,7 @@ fn debit_request_total(i: usize) -> Total
 }
 
 fn debit_result_total(i: usize) -> Total
-    requires { ⌜ i < 5 ⌝ }
+    requires { ⌜ i < 6 ⌝ }
     ensures { λ r. ⌜ r ≡ getD debitResultTotals i noTotal ⌝ }
 {
     DEBIT_RESULT_TOTALS[i]

@@ -9,7 +9,7 @@ use Rattle.answers.specs.declared.of_day.DayTold.{DayTold}
 use Rattle.answers.specs.declared.of_day.DayShown.{DayShown}
 use Rattle.answers.specs.Lying.{caseOf, firstOf, sizeOf}
 use Rattle.outcomes.specs.declared.cases.Told.{Told}
-use Rattle.outcomes.specs.Outcomes.{fourOf}
+use Rattle.outcomes.specs.Outcomes.{numbersOf}
 use Rattle.walker.specs.declared.walking.Walked.{Walked}
 use Rattle.walker.specs.Walks.{threeOf}
 use Rattle.evidence.specs.declared.lying.Shown.{Shown}
@@ -21,9 +21,9 @@ five a = a .side ∷ a .number ∷ a .rec ∷ a .item ∷ a .code ∷ []
 abbrev pub six : Stored → List ℕ
 six s = five (s .answer) ++ (s .size ∷ [])
 
--- an outcome's case, taken, not taken and code follow
-abbrev pub nine : Told → List ℕ
-nine t = five (t .answer) ++ fourOf (t .outcome)
+-- an outcome's case, taken, not taken, code and maker follow
+abbrev pub ten : Told → List ℕ
+ten t = five (t .answer) ++ numbersOf (t .outcome)
 
 -- a step's case, first byte and length follow
 abbrev pub eight : Walked → List ℕ

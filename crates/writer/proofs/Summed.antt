@@ -18,9 +18,11 @@ use Rattle.laws.proofs.Tabs.{tab-at, tab-same}
 use Rattle.kinds.specs.declared.of_files.Kind.{Kind}
 use Rattle.kinds.specs.Kinds.{limit}
 use Rattle.tables.specs.declared.totals.Quantity.{Quantity}
-use Rattle.tables.specs.declared.totals.Quantity.the-variants.{Records, OfKind, Amounts, Marked, AmountsMarked}
+use Rattle.tables.specs.declared.totals.Quantity.the-variants.{Records, OfKind, Amounts, Marked, AmountsMarked, MarkedByCentre}
+use Rattle.tables.specs.Makers.{makerOf}
+use Rattle.tables.proofs.Making.{centre-one}
 use Rattle.tables.specs.Totals.{noTotal, totalsOf, mostTotals}
-use Rattle.layout.specs.Items.{applicationOf, amountOf, markOf}
+use Rattle.layout.specs.Items.{applicationOf, amountOf, markOf, codeOf}
 use Rattle.numbers.specs.Numbers.{valueOf}
 use Rattle.numbers.proofs.Values.{value-within}
 use Rattle.records.specs.Quantities.{worth}
@@ -48,6 +50,7 @@ worth-small (OfKind b) rec = if-small (eqb (applicationOf rec) b) 1 (10 ^ 13) (o
 worth-small Amounts rec = amount-small rec
 worth-small (Marked b) rec = if-small (eqb (markOf rec) b) 1 (10 ^ 13) (omega arith)
 worth-small (AmountsMarked b) rec = if-small (eqb (markOf rec) b) (amountOf rec) (10 ^ 13) (amount-small rec)
+worth-small (MarkedByCentre b) rec = if-small (eqb (markOf rec) b) _ (10 ^ 13) (omega (arith, centre-one (makerOf (codeOf rec))))
 
 module _ (k : Kind) (header bodies : List ℕ) where
   -- so a sum fits
@@ -59,7 +62,7 @@ module _ (k : Kind) (header bodies : List ℕ) where
       each j = if-small (ltb t (length (totalsOf k))) _ (10 ^ 13) (worth-small (getD (totalsOf k) t noTotal .3) (dataBuilt k header bodies j))
 
   -- none yet, one more, all of them
-  pub sums-start : (0 ∷ 0 ∷ 0 ∷ 0 ∷ 0 ∷ []) ≡ tabulate (sumTo k header bodies 0) mostTotals
+  pub sums-start : (0 ∷ 0 ∷ 0 ∷ 0 ∷ 0 ∷ 0 ∷ []) ≡ tabulate (sumTo k header bodies 0) mostTotals
   unfolding tabulate sumTo sum
   sums-start = refl
 

@@ -19,8 +19,6 @@ pub struct Draft {
     pub item7: Vec<u8>,
     /// Data records without items 1 to 3.
     pub bodies: Vec<Vec<u8>>,
-    /// EB22 trailer item 10.
-    pub centre_errors: Vec<u8>,
     /// EB22 trailer item 12.
     pub fee: Vec<u8>,
     pub mac: Vec<u8>,
@@ -53,9 +51,7 @@ impl Draft {
                 file.extend(spaces(63));
             }
             Kind::EB22 => {
-                file.extend([b'0'; 50]);
-                file.extend(&self.centre_errors);
-                file.extend(b"0000");
+                file.extend([b'0'; 62]);
                 file.extend(&self.fee);
                 file.extend([b'0'; 11]);
                 file.extend(spaces(29));

@@ -3,7 +3,7 @@
 use super::items::body_amount;
 use super::places::{is_whole, raw_records};
 use super::texts::decimal;
-use crate::layout::Kind;
+use crate::layout::{is_centre_code, Kind};
 
 /// Puts the counts and sums into the trailer that the data records give.
 pub fn mend_totals(kind: Kind, file: &mut [u8]) {
@@ -33,6 +33,7 @@ pub fn mend_totals(kind: Kind, file: &mut [u8]) {
             (43, 13, sum(Some(b'N'))),
             (56, 8, count(68, b'P')),
             (64, 13, sum(Some(b'P'))),
+            (77, 8, data.iter().filter(|r| r[68] == b'N' && is_centre_code(&r[69..73])).count() as u64),
         ],
     };
     for (start, digits, value) in totals {

@@ -23,7 +23,6 @@ pub fn request_of(rng: &mut Rng, kind: Kind, n: usize) -> Draft {
         item6: if debit { digits(rng, 7) } else { vec![] },
         item7: if debit { code_text(rng, 1, 16) } else { vec![] },
         bodies: vec![],
-        centre_errors: digits(rng, 8),
         fee: digits(rng, 11),
         mac: spaces(10),
     };

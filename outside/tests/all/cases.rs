@@ -92,7 +92,6 @@ pub fn draft(kind: Kind, date: &str, bodies: Vec<Vec<u8>>) -> Draft {
         item6: if debit { b"0046554".to_vec() } else { Vec::new() },
         item7: if debit { filled("65501053333", 16) } else { Vec::new() },
         bodies,
-        centre_errors: vec![b'0'; 8],
         fee: vec![b'0'; 11],
         mac: vec![b' '; 10],
     }

@@ -6,7 +6,9 @@ use super::common::{check_coverage, good_file, keep, other_texts, proved_shown, 
 use outside::bridge::{ask, Call, Queue, Said};
 use outside::coverage::{Counter, Operation};
 use outside::gen::{self, Rng};
-use outside::layout::{Kind, PairKind, MOST_RECORDS};
+use outside::layout::{
+    is_centre_code, table_codes, Kind, PairKind, BANK_CODES, CENTRE_CODES, MOST_RECORDS,
+};
 use outside::shrink::shrink;
 use outside::{read, settings, write, Answer};
 
@@ -132,6 +134,7 @@ const DEBIT_RESULT: usize = 68;
 const DEBIT_PAYER: usize = 91;
 const DEBIT_USE: usize = 111;
 const DEBIT_TYPE: usize = 116;
+const CENTRE_COUNT: usize = 77;
 
 /// One good record n times: only the keys are at fault.
 fn same_records(rng: &mut Rng, kind: Kind, n: usize) -> Vec<u8> {
@@ -327,6 +330,66 @@ fn every_code_of_a_result() {
             }
         }
     }
+}
+
+/// Up to four results, each marked "N" or "P" with some code of a bank or of the centre, or "P" alone: item 10 counts the
+/// "N" records with a code of the centre, whatever stands beside them.
+#[test]
+fn every_mix_of_marks_and_makers() {
+    let (mut both, mut rng) = (both(), Rng::new(settings::seed()));
+    let mut counts = [0; 5];
+    for n in 0..=4 {
+        let mut file = good_file(&mut rng, Kind::EB22, n);
+        for mix in 0..5_usize.pow(n as u32) {
+            let choices = (0..n).map(|record| mix / 5_usize.pow(record as u32) % 5);
+            let results: Vec<Vec<u8>> = choices.map(|choice| some_result(&mut rng, choice)).collect();
+            counts[item_10(&mut both, &mut file, &results)] += 1;
+        }
+    }
+    // Of n records k are such ones in n over k ways, and each other is one of four.
+    assert_eq!(counts, [1 + 4 + 16 + 64 + 256, 1 + 8 + 48 + 256, 1 + 12 + 96, 1 + 16, 1]);
+}
+
+/// The same for every code by itself.
+#[test]
+fn every_code_and_item_10() {
+    let (mut both, mut rng) = (both(), Rng::new(settings::seed()));
+    let mut file = good_file(&mut rng, Kind::EB22, 1);
+    let mut counts = [0; 2];
+    for code in table_codes() {
+        for mark in [b"N", b"P"] {
+            counts[item_10(&mut both, &mut file, &[[mark, code].concat()])] += 1;
+        }
+    }
+    assert_eq!(counts, [2 * 25 + 23, 23]);
+}
+
+/// Reads a file with these results and each number about the right one in item 10, also one more in each digit; tells the
+/// right one.
+fn item_10(both: &mut Both, file: &mut [u8], results: &[Vec<u8>]) -> usize {
+    for (before, result) in results.iter().enumerate() {
+        put(file, (before + 1) * 150 + DEBIT_RESULT, result);
+    }
+    mend(Kind::EB22, file);
+    let count = results.iter().filter(|told| told[0] == b'N' && is_centre_code(&told[1..])).count();
+    let about = [count, count.saturating_sub(1), 0, results.len(), 99_999_999];
+    for number in about.into_iter().chain((0..8).map(|digit| count + 10_usize.pow(digit))) {
+        put(file, (results.len() + 1) * 150 + CENTRE_COUNT, format!("{number:08}").as_bytes());
+        let wrong = Answer::placed(6, results.len() + 1, 10);
+        let expected = if number == count { Answer::accepted() } else { wrong };
+        assert_eq!(compare(both, Kind::EB22.number(), file), expected, "{number} of {results:?}");
+    }
+    count
+}
+
+fn some_result(rng: &mut Rng, choice: usize) -> Vec<u8> {
+    let mark = if choice < 2 { b"N" } else { b"P" };
+    let code = match choice {
+        0 | 2 => rng.pick(&BANK_CODES),
+        1 | 3 => rng.pick(&CENTRE_CODES),
+        _ => b"    ",
+    };
+    [&mark[..], code].concat()
 }
 
 #[test]

@@ -13,7 +13,7 @@ use outside::day::layout::{bodies_start, ENTRY_LENGTH, MOST_BODIES};
 use outside::gen::{self, DayDraft, NamedBody, Rng};
 use outside::layout::{Kind, PairKind, MOST_RECORDS};
 use outside::shrink::shrink_day;
-use outside::{day_body, day_read, eight_of_day, read, settings, ten, Answer, DayAnswer};
+use outside::{day_body, day_read, eight_of_day, read, settings, ten_of_body, Answer, DayAnswer};
 
 // ------------------------------------------------------------------ one file
 
@@ -45,7 +45,7 @@ fn ours(file: &[u8], asked: Asked) -> (DayAnswer, Vec<u64>) {
         }
         Asked::Body(which) => {
             let (told, body) = day_body(file, which);
-            (told, ten(&told, &body).to_vec())
+            (told, ten_of_body(&told, &body).to_vec())
         }
     }
 }

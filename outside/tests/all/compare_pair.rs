@@ -6,9 +6,9 @@ use super::common::{check_coverage, good_file, keep, put, shown};
 use outside::bridge::{ask, Call, Queue, Said};
 use outside::coverage::{Counter, Operation};
 use outside::gen::{self, Draft, Rng, LARGEST_AMOUNT};
-use outside::layout::{table_codes, Kind, PairKind, MOST_RECORDS};
+use outside::layout::{is_bank_code, is_centre_code, table_codes, Kind, PairKind, MOST_RECORDS};
 use outside::shrink::shrink;
-use outside::{nine, outcome, pair, settings, Answer};
+use outside::{outcome, pair, settings, ten_of_outcome, Answer};
 use std::collections::BTreeMap;
 
 // ------------------------------------------------------------------ one pair
@@ -31,7 +31,7 @@ fn ours(number: u32, request: &[u8], result: &[u8], asked: &Asked) -> (Answer, V
         }
         Asked::Outcome(record) => {
             let (told, outcome) = outcome(number, request, result, record);
-            (told, nine(&told, &outcome).to_vec())
+            (told, ten_of_outcome(&told, &outcome).to_vec())
         }
     }
 }
@@ -656,7 +656,43 @@ fn every_code_of_an_outcome() {
                 let told: [u8; 5] = [mark, code[0], code[1], code[2], code[3]];
                 let result = result_of(&request, &[(1, &told, if mark == b'N' { 20_000 } else { 1 })]);
                 all_outcomes(&mut both, kinds, &request.file(), &result.file());
+                let maker = u64::from(is_bank_code(code)) + 2 * u64::from(is_centre_code(code));
+                let good = if mark == b'N' { maker > 0 } else { kinds == PairKind::Debit };
+                let expected = [1, 2, 3].map(|record| u64::from(good && record == 2) * maker);
+                let makers = [1, 2, 3].map(|record| {
+                    let asked = Asked::Outcome(record);
+                    compare(&mut both, kinds.number(), &request.file(), &result.file(), asked).1[9]
+                });
+                assert_eq!(makers, expected, "{kinds:?}, {}", told.escape_ascii());
             }
+        }
+    }
+}
+
+/// Item 10 of the result is told as the reader tells it, on side 2, before anything is compared.
+#[test]
+fn every_count_of_failures_by_the_centre() {
+    let (mut both, mut rng) = (both(), Rng::new(settings::seed()));
+    let kinds = PairKind::Debit;
+    let request = request_of(&mut rng, kinds, 3, |_| (20_000, b'2'));
+    let answers: [(&[u8; 5], u64); 4] =
+        [(b"N0021", 20_000), (b"N9999", 20_000), (b"P0096", 1), (b"N9998", 19_999)];
+    for choice in 0..4_usize.pow(3) {
+        let chosen = [0, 1, 2].map(|record| answers[choice >> (2 * record) & 3]);
+        let listed = [0, 1, 2].map(|record| (record, chosen[record].0, chosen[record].1));
+        let mut result = result_of(&request, &listed).file();
+        let count = chosen.iter().filter(|(told, _)| told[0] == b'N' && is_centre_code(&told[1..])).count();
+        let impossible = chosen.iter().position(|answer| answer.1 == 19_999);
+        for number in 0..=4 {
+            let item = result.len() - 150 + 77;
+            put(&mut result, item, format!("{number:08}").as_bytes());
+            let expected = match impossible {
+                _ if number != count => Answer::placed(6, 4, 10).on_side(2),
+                Some(before) => Answer::placed(14, before + 1, 6),
+                None => Answer::accepted(),
+            };
+            assert_eq!(paired(&mut both, kinds, &request.file(), &result).0, expected);
+            all_outcomes(&mut both, kinds, &request.file(), &result);
         }
     }
 }

@@ -6,7 +6,7 @@ use super::common::{check_coverage, good_file, keep};
 use outside::bridge::{ask, Call, Queue, Said};
 use outside::coverage::{Counter, Operation};
 use outside::gen::{self, Rng};
-use outside::layout::{Kind, PairKind};
+use outside::layout::{is_bank_code, table_codes, Kind, PairKind};
 use outside::post::{settle_files, LONGEST_FILE};
 use outside::shrink::shrink;
 use outside::{post, post_into, settings, Answer};
@@ -137,6 +137,39 @@ fn every_number_of_requests() {
         let request = gen::request_of(&mut rng, Kind::EB21, n);
         let result = gen::result_of(&mut rng, &request, true);
         compare(&mut both, &request.file(), &result.file());
+    }
+}
+
+/// Every code, and its last word: behind "N" and behind "P", where it may be blank.
+#[test]
+fn every_last_word() {
+    let (mut both, mut rng) = (both(), Rng::new(settings::seed()));
+    let mut request = gen::request_of(&mut rng, Kind::EB21, 1);
+    let place = |item: usize| gen::body_item(Kind::EB21, item);
+    request.bodies[0][place(6)].copy_from_slice(b"0000000020000");
+    request.bodies[0][place(13)].copy_from_slice(b"2");
+    for code in table_codes().chain([&b"    "[..]]) {
+        let word = match code {
+            b"    " => "----",
+            code if is_bank_code(code) => "bank",
+            _ => "centre",
+        };
+        let printed = String::from_utf8_lossy(code).replace("    ", "----");
+        for (mark, won, line) in [
+            (b"N", b"0000000020000", "accepted 1 20000 0 20000\n1 refused 0 20000"),
+            (b"P", b"0000000000001", "accepted 1 20000 19999 1\n1 part 19999 1"),
+        ] {
+            let mut result = request.clone();
+            result.kind = Kind::EB22;
+            result.bodies[0][place(6)].copy_from_slice(won);
+            result.bodies[0][place(8)].copy_from_slice(&[mark, code].concat());
+            compare(&mut both, &request.file(), &result.file());
+            let expected = match (mark, word) {
+                (b"N", "----") => "refused 2 4 1 8 0088\n".to_string(),
+                _ => format!("{line} {printed} {word}\n"),
+            };
+            assert_eq!(String::from_utf8_lossy(&post(&request.file(), &result.file())), expected);
+        }
     }
 }
 

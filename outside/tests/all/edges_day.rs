@@ -8,7 +8,7 @@ use outside::coverage::Counter;
 use outside::coverage_day::{DayEntry, DayOperation, Told};
 use outside::gen::DayWriteInput;
 use outside::proved::DayParts;
-use outside::{day_body, day_read, day_write, eight_of_day, ten, Answer, DayAnswer};
+use outside::{day_body, day_read, day_write, eight_of_day, ten_of_body, Answer, DayAnswer};
 
 /// What the list says must come of a case.
 fn expected(case: &Case) -> Said {
@@ -34,7 +34,7 @@ fn reference(case: &Case) -> Said {
         }
         Asked::Body { file, which } => {
             let (told, body) = day_body(file, *which);
-            Said::new(told.number).numbers(&ten(&told, &body))
+            Said::new(told.number).numbers(&ten_of_body(&told, &body))
         }
         Asked::Write { given, .. } => {
             let DayWriteInput { names, lengths, bodies, room } = given;

@@ -159,6 +159,9 @@ fn in_words(class: &[String], size: u64, least: &str) -> String {
         ["Least"] => return format!("an amount of at least {least} won, unless the type is \"1\""),
         ["OfKind", byte] => return format!("the number of records whose item 5 is \"{}\"", letters(byte)),
         ["Marked", byte] => return format!("the number of records marked \"{}\"", letters(byte)),
+        ["MarkedByCentre", byte] => {
+            return format!("the number of records marked \"{}\" with a code of the centre", letters(byte))
+        }
         ["AmountsMarked", byte] => {
             return format!("the sum of item 6 of the records marked \"{}\"", letters(byte))
         }
@@ -725,7 +728,7 @@ pub fn changed(text: &str, from: &str, to: &str) -> String {
 fn every_item_is_documented_as_it_is() {
     let library = library_as_it_is();
     let found: usize = library.values().map(Vec::len).sum();
-    assert!(library.len() >= 18 && found >= 245, "only {} records with {found} rules", library.len());
+    assert!(library.len() >= 18 && found >= 246, "only {} records with {found} rules", library.len());
     assert_eq!(differences(&library, &documented(&text("docs/ITEMS.md"))), Vec::<String>::new());
 }
 
@@ -774,6 +777,7 @@ fn a_wrong_item_is_seen() {
     assert_eq!(seen("at least 140 won,", "at least 139 won,").len(), 1);
     assert_eq!(seen("EB22: \"N\" and a table code, or", "EB22: \"N\", or").len(), 1);
     assert_eq!(seen("all data records (refusal 6)", "all data records (refusal 5)").len(), 1);
+    assert_eq!(seen(" with a code of the centre (refusal 6)", " (refusal 6)").len(), 1);
     assert_eq!(seen("only digits (0088); not zero (0061)", "only digits (0088)").len(), 2);
     assert_eq!(seen("only digits (0088); not zero (0061)", "not zero (0061); only digits (0088)").len(), 2);
     // a whole record
@@ -805,13 +809,16 @@ fn a_changed_table_is_seen() {
     assert_eq!(
         seen(
             TABLES,
-            "DebitResult Trailer = debitResultTrailer",
-            "DebitResult Trailer = debitRequestTrailer"
+            "DebitRequest Trailer = debitRequestTrailer",
+            "DebitRequest Trailer = debitResultTrailer"
         ),
         1
     );
     assert_eq!(seen(TOTALS, "total 7 43 13 Amounts ∷", ""), 1);
     assert_eq!(seen(TOTALS, "(OfKind 0x37)", "(OfKind 0x38)"), 2);
+    assert_eq!(seen(TOTALS, "(MarkedByCentre 0x4E)", "(MarkedByCentre 0x50)"), 1);
+    assert_eq!(seen(TOTALS, "(MarkedByCentre 0x4E)", "(Marked 0x4E)"), 1);
+    assert_eq!(seen(TOTALS, "total 10 77 8 (MarkedByCentre 0x4E) ∷", ""), 1);
     assert_eq!(
         seen(
             TOTALS,

@@ -1,6 +1,6 @@
 //! The reference against the rules: their edge cases, the places where two
-//! careful readers of them could differ (a01 to a56), and properties over
-//! generated inputs.
+//! careful readers of them could differ (a01 to a56, and q3a to q3c of makers
+//! and item 10), and properties over generated inputs.
 //!
 //! `OUTSIDE_SEED` and `OUTSIDE_COUNT` choose the generated inputs.
 
@@ -9,7 +9,8 @@ use outside::gen::{self, Rng};
 use outside::layout::{is_table_code, Kind, PairKind};
 use outside::settings;
 use outside::{
-    apart, eight, nine, outcome, pair, post, post_into, read, walk, write, Answer, Outcome, Step,
+    apart, eight, outcome, pair, post, post_into, read, ten_of_outcome, walk, write, Answer, Maker,
+    Outcome, Step,
 };
 
 // ------------------------------------------------------------------- builders
@@ -22,6 +23,12 @@ const EB22: u32 = 0x4542_3232;
 
 const CODE: &str = "9912345678";
 const DATE: &str = "240315";
+
+const BANKS: &str = "0012 0014 0015 0017 0018 0019 0020 0021 0022 0024 0031 0032 0033 0034 0035 0036 0037 \
+                     0038 0041 0051 0065 0066 A011 A016 A018";
+const CENTRE: &str =
+    "A012 0011 0061 0062 0068 0075 0077 0078 0079 0081 0087 0088 0089 0090 0091 0096 0098 \
+                      0101 0102 0103 0105 9998 9999";
 
 pub(super) fn answer(side: u64, number: u64, record: u64, item: u64, code: &str) -> Answer {
     Answer { side, number, record, item, code: code.as_bytes().try_into().unwrap() }
@@ -81,6 +88,8 @@ fn trailer(kind: &str, bodies: &[Vec<u8>]) -> Vec<u8> {
             .filter_map(|b| std::str::from_utf8(&b[23..36]).ok()?.parse::<u64>().ok())
             .sum()
     };
+    let by_centre =
+        |b: &&Vec<u8>| b[49] == b'N' && CENTRE.split(' ').any(|code| b[50..54] == *code.as_bytes());
     let most = 10_000_000_000_000;
     let start = format!("T99999999{CODE}{kind}0315{n:08}");
     let text = match kind {
@@ -100,7 +109,7 @@ fn trailer(kind: &str, bodies: &[Vec<u8>]) -> Vec<u8> {
             sum(b"N") % most,
             count(49, b'P'),
             sum(b"P") % most,
-            7,
+            bodies.iter().filter(by_centre).count(),
             0,
             420,
             0,
@@ -162,7 +171,7 @@ pub(super) fn sample(kind: &str) -> Vec<u8> {
         _ => vec![
             debit(10_000, "0", "A", "N0021"),
             debit(1_000, "2", "B", "P0021"),
-            debit(30_000, "1", "C", "N0012"),
+            debit(30_000, "1", "C", "N0096"),
         ],
     };
     file(kind, &bodies)
@@ -593,14 +602,12 @@ fn a16_a17_a18_trailers() {
     assert_eq!(read(EB13, &zero), answer(0, 4, 4, 7, "0090"));
     assert_eq!(read(EB13, &put("EB13", &zero, 4, 27, b"00000009")), answer(0, 4, 4, 7, "0090"));
     assert_eq!(read(EB13, &put("EB13", &good, 4, 43, b"       0")), answer(0, 4, 4, 7, "0090"));
-    // EB22 items 10 and 12: any digits.
+    // EB22 item 12: any digits.
     let good = sample("EB22");
-    for (start, digits, item) in [(77, 8, 10), (89, 11, 12)] {
-        for digit in b"09" {
-            assert_eq!(read(EB22, &put("EB22", &good, 4, start, &vec![*digit; digits])), accepted());
-        }
-        assert_eq!(read(EB22, &put("EB22", &good, 4, start, b" ")), answer(0, 4, 4, item, "0088"));
+    for digit in b"09" {
+        assert_eq!(read(EB22, &put("EB22", &good, 4, 89, &[*digit; 11])), accepted());
     }
+    assert_eq!(read(EB22, &put("EB22", &good, 4, 89, b" ")), answer(0, 4, 4, 12, "0088"));
     // MAC: spaces in what we send, free text in what we get.
     for (kind, start, item) in [("EB13", 110, 11), ("EB21", 140, 11)] {
         let bad = put(kind, &sample(kind), 4, start, b"A");
@@ -637,7 +644,7 @@ fn a20_order_of_totals() {
         ("EB13", vec![(5, 27, 8), (6, 35, 8), (8, 51, 8), (9, 59, 8)]),
         ("EB14", vec![(5, 27, 8), (6, 35, 8), (8, 51, 8), (9, 59, 8)]),
         ("EB21", vec![(5, 27, 8), (6, 35, 8), (7, 43, 13)]),
-        ("EB22", vec![(5, 27, 8), (6, 35, 8), (7, 43, 13), (8, 56, 8), (9, 64, 13)]),
+        ("EB22", vec![(5, 27, 8), (6, 35, 8), (7, 43, 13), (8, 56, 8), (9, 64, 13), (10, 77, 8)]),
     ] {
         // From the last to the first: each earlier one wins.
         let mut file = sample(kind);
@@ -790,9 +797,9 @@ fn a30_a31_a32_a33_answers() {
     assert_eq!(answer(2, 4, 7, 4, "A011").five(), [2, 4, 7, 4, 0x4130_3131]);
     let (request, result) = debits(&[(500, "0")], &[]);
     let (told, got) = outcome(EB21, &request, &result, 1);
-    assert_eq!(nine(&told, &got), [0, 0, 0, 0, 0x3030_3030, 1, 500, 0, 0x2020_2020]);
+    assert_eq!(ten_of_outcome(&told, &got), [0, 0, 0, 0, 0x3030_3030, 1, 500, 0, 0x2020_2020, 0]);
     let (told, got) = outcome(EB21, &request, &result, 2);
-    assert_eq!(nine(&told, &got), [0, 15, 0, 0, 0x3030_3030, 0, 0, 0, 0x2020_2020]);
+    assert_eq!(ten_of_outcome(&told, &got), [0, 15, 0, 0, 0x3030_3030, 0, 0, 0, 0x2020_2020, 0]);
 }
 
 #[test]
@@ -809,8 +816,8 @@ fn a34_outcomes() {
     assert_eq!(told(3), (accepted(), refused));
     let blank = Outcome::Part { taken: 1_000, not_taken: 4_000, code: *b"    " };
     assert_eq!(told(4), (accepted(), blank));
-    assert_eq!(nine(&accepted(), &blank)[5..], [2, 1_000, 4_000, 0x2020_2020]);
-    assert_eq!(nine(&accepted(), &refused)[5..], [3, 0, 30_000, 0x3030_3132]);
+    assert_eq!(ten_of_outcome(&accepted(), &blank)[5..], [2, 1_000, 4_000, 0x2020_2020, 0]);
+    assert_eq!(ten_of_outcome(&accepted(), &refused)[5..], [3, 0, 30_000, 0x3030_3132, 1]);
     let enrolments = (sample("EB13"), file("EB14", &[enrolment("3", "B", "NA016")]));
     let told = |record| outcome(EB13, &enrolments.0, &enrolments.1, record);
     assert_eq!(told(1), (accepted(), Outcome::Whole { won: 1 }));
@@ -1064,12 +1071,12 @@ fn a53_a54_a55_the_program() {
         &[(2, 1_000, "P0021"), (3, 30_000, "N0021")],
     );
     let text = "accepted 3 60000 29000 31000\n\
-                1 whole 10000 0 ----\n\
-                2 part 19000 1000 0021\n\
-                3 refused 0 30000 0021\n";
+                1 whole 10000 0 ---- ----\n\
+                2 part 19000 1000 0021 bank\n\
+                3 refused 0 30000 0021 bank\n";
     assert_eq!(posted(&request, &result), text);
     let blank = put("EB22", &result, 1, 69, b"    ");
-    assert_eq!(posted(&request, &blank), text.replacen("1000 0021", "1000 ----", 1));
+    assert_eq!(posted(&request, &blank), text.replacen("1000 0021 bank", "1000 ---- ----", 1));
     let bad = put("EB22", &put("EB22", &result, 2, 42, b"0000000029999"), 3, 43, b"0000000029999");
     assert_eq!(posted(&request, &bad), "refused 0 14 2 6 0000\n");
     // Sizes first, request first.
@@ -1091,7 +1098,9 @@ fn a53_a54_a55_the_program() {
     let full = debits(&asks, &[]);
     assert_eq!(full.0.len(), 64_800);
     let text = posted(&full.0, &full.1);
-    assert!(text.starts_with("accepted 430 9999999999790 9999999999790 0\n1 whole 23255813953 0 ----\n"));
+    assert!(
+        text.starts_with("accepted 430 9999999999790 9999999999790 0\n1 whole 23255813953 0 ---- ----\n")
+    );
     assert_eq!(text.lines().count(), 431);
 }
 
@@ -1107,6 +1116,205 @@ fn the_face_of_the_program() {
     assert_eq!(&long[..wanted.len()], &wanted[..]);
     assert_eq!(&long[wanted.len()..], [7; 3]);
     assert_eq!(post_into(&[], &[], &mut []), 0);
+}
+
+// ----------------------------------------------------------------- q3a to q3c
+
+fn is_set_by(codes: &str, code: &[u8]) -> bool {
+    codes.split(' ').any(|known| known.as_bytes() == code)
+}
+
+/// By the two lists of the rules.
+fn maker_of(code: &[u8]) -> Maker {
+    match (is_set_by(BANKS, code), is_set_by(CENTRE, code)) {
+        (true, false) => Maker::Bank,
+        (false, true) => Maker::Centre,
+        (false, false) => Maker::None,
+        (true, true) => panic!("two makers: {}", code.escape_ascii()),
+    }
+}
+
+/// What is printed behind a code as it is printed.
+fn last_word(code: &str) -> &'static str {
+    match maker_of(code.as_bytes()) {
+        Maker::None => "----",
+        Maker::Bank => "bank",
+        Maker::Centre => "centre",
+    }
+}
+
+/// All table codes, and blank.
+fn codes() -> impl Iterator<Item = &'static str> {
+    BANKS.split(' ').chain(CENTRE.split(' ')).chain(["    "])
+}
+
+#[test]
+fn the_lists_of_makers_are_the_rules() {
+    assert_eq!((BANKS.split(' ').count(), CENTRE.split(' ').count()), (25, 23));
+    for code in codes() {
+        let four: [u8; 4] = code.as_bytes().try_into().unwrap();
+        assert_eq!(Maker::of(&four), maker_of(&four), "{code}");
+        assert_eq!(is_table_code(&four), maker_of(&four) != Maker::None, "{code}");
+    }
+    assert_eq!([Maker::None, Maker::Bank, Maker::Centre].map(Maker::number), [0, 1, 2]);
+    for code in [b"0021", b"A018"] {
+        assert_eq!(Maker::of(code), Maker::Bank);
+    }
+    for code in [b"A012", b"0096", b"9999"] {
+        assert_eq!(Maker::of(code), Maker::Centre);
+    }
+    for code in [b"    ", b"0000", b"0097", b"a012", b"----"] {
+        assert_eq!(Maker::of(code), Maker::None);
+    }
+}
+
+/// What is told of an EB22 whose trailer has this number in item 10.
+fn with_item_10(good: &[u8], number: u64) -> Answer {
+    let trailer = good.len() / 150 - 1;
+    read(EB22, &put("EB22", good, trailer, 77, format!("{number:08}").as_bytes()))
+}
+
+#[test]
+fn q3a_item_10_counts_failures_by_the_centre() {
+    // Each code with each mark: only "N" with a code of the centre counts.
+    for (code, mark) in codes().flat_map(|code| [(code, "N"), (code, "P")]) {
+        if (mark, code) == ("N", "    ") {
+            continue;
+        }
+        let good = file("EB22", &[debit(500, "0", "A", &format!("{mark}{code}"))]);
+        let count = u64::from(mark == "N" && is_set_by(CENTRE, code.as_bytes()));
+        for number in [0, 1, 2, 10, 99_999_999] {
+            let wanted = if number == count { accepted() } else { answer(0, 6, 2, 10, "0000") };
+            assert_eq!(with_item_10(&good, number), wanted, "{mark}{code} {number}");
+        }
+    }
+    // As many as there are records, and no records.
+    let many = |n: u64| {
+        let bodies: Vec<_> = (0..n).map(|k| debit(500, "0", &format!("P{k}"), "N9999")).collect();
+        file("EB22", &bodies)
+    };
+    for n in [0, 1, 9, 10, 11, 99, 100, 429, 430] {
+        assert_eq!(with_item_10(&many(n), n), accepted());
+        for number in [n + 1, n.max(1) - 1, n + 10, n + 10_000_000] {
+            let wanted = if number == n { accepted() } else { answer(0, 6, n + 1, 10, "0000") };
+            assert_eq!(with_item_10(&many(n), number), wanted, "{n} {number}");
+        }
+    }
+    // All digits count: 00000010 and 10000001 are not 00000001.
+    let good = sample("EB22");
+    for item in ["00000010", "10000001", "00000101", "10000000", "00000000"] {
+        assert_eq!(read(EB22, &put("EB22", &good, 4, 77, item.as_bytes())), answer(0, 6, 4, 10, "0000"));
+    }
+}
+
+#[test]
+fn q3a_the_order_of_item_10() {
+    // Digits are asked for in the walk, before any total is looked at and before item 11.
+    let good = sample("EB22");
+    for at in 77..85 {
+        for byte in [b' ', b'/', b':', b'A', b'-', 0x1f, 0xff] {
+            let bad = put("EB22", &good, 4, at, &[byte]);
+            assert_eq!(read(EB22, &bad), answer(0, 4, 4, 10, "0088"));
+            assert_eq!(read(EB22, &put("EB22", &bad, 4, 27, b"00000009")), answer(0, 4, 4, 10, "0088"));
+            assert_eq!(read(EB22, &put("EB22", &bad, 4, 85, b"0001")), answer(0, 4, 4, 10, "0088"));
+        }
+    }
+    // A wrong number comes behind every fault of the walk.
+    let wrong = put("EB22", &good, 4, 77, b"00000002");
+    assert_eq!(read(EB22, &wrong), answer(0, 6, 4, 10, "0000"));
+    assert_eq!(read(EB22, &put("EB22", &wrong, 4, 149, b"\x7f")), answer(0, 4, 4, 15, "0088"));
+    assert_eq!(read(EB22, &put("EB22", &wrong, 4, 85, b"0001")), answer(0, 4, 4, 11, "0090"));
+    // The last of the 6s, and before 7.
+    let twice = file("EB22", &[debit(500, "0", "A", "N0096"), debit(400, "0", "A", "P0096")]);
+    assert_eq!(read(EB22, &twice), answer(0, 7, 2, 11, "0000"));
+    let ten = put("EB22", &twice, 3, 77, b"00000002");
+    assert_eq!(read(EB22, &ten), answer(0, 6, 3, 10, "0000"));
+    assert_eq!(read(EB22, &put("EB22", &ten, 3, 64, b"0000000000401")), answer(0, 6, 3, 9, "0000"));
+    // A code that is none of the table's is told of before.
+    let none = put("EB22", &wrong, 3, 69, b"0097");
+    assert_eq!(read(EB22, &none), answer(0, 4, 3, 8, "0088"));
+}
+
+#[test]
+fn q3a_item_10_in_pairs() {
+    let (request, result) = debits(&[(500, "0"), (600, "0")], &[(1, 500, "N0096"), (2, 100, "P0096")]);
+    assert_eq!(paired(EB21, &request, &result), (accepted(), vec![0, 500], vec![500, 100]));
+    for number in ["00000000", "00000002"] {
+        let wrong = put("EB22", &result, 3, 77, number.as_bytes());
+        let told = answer(2, 6, 3, 10, "0000");
+        assert_eq!(paired(EB21, &request, &wrong), (told, vec![77; 2], vec![88; 2]));
+        assert_eq!(outcome(EB21, &request, &wrong, 1), (told, Outcome::None));
+        assert_eq!(walk(EB22, &wrong, 0), (told.on_side(0), Step::None));
+        assert_eq!(posted(&request, &wrong), "refused 2 6 3 10 0000\n");
+    }
+    // The request's trailer has no such count: its item 10 is spaces.
+    let bad = put("EB21", &request, 3, 77, b"00000000");
+    assert_eq!(paired(EB21, &bad, &result).0, answer(1, 4, 3, 10, "0089"));
+}
+
+#[test]
+fn q3b_makers_of_outcomes() {
+    for code in codes() {
+        let maker = maker_of(code.as_bytes());
+        let outcome_of = |pair, request: &[u8], result: &[u8], record| {
+            let (told, outcome) = outcome(pair, request, result, record);
+            assert_eq!(told, accepted(), "{code}");
+            assert_eq!(ten_of_outcome(&told, &outcome)[9], outcome.maker().number());
+            outcome.maker()
+        };
+        // A part, and beside it a whole payment, which has no maker.
+        let (request, result) = debits(&[(500, "0"), (600, "0")], &[(1, 100, &format!("P{code}"))]);
+        assert_eq!(outcome_of(EB21, &request, &result, 1), maker, "{code}");
+        assert_eq!(outcome_of(EB21, &request, &result, 2), Maker::None);
+        let printed = if code == "    " { "----" } else { code };
+        let line = format!("1 part 400 100 {printed} {}\n", last_word(printed));
+        assert_eq!(
+            posted(&request, &result),
+            format!("accepted 2 1100 1000 100\n{line}2 whole 600 0 ---- ----\n")
+        );
+        if maker == Maker::None {
+            continue;
+        }
+        let (request, result) = debits(&[(500, "0")], &[(1, 500, &format!("N{code}"))]);
+        assert_eq!(outcome_of(EB21, &request, &result, 1), maker, "{code}");
+        let line = format!("1 refused 0 500 {code} {}\n", last_word(code));
+        assert_eq!(posted(&request, &result), format!("accepted 1 500 0 500\n{line}"));
+        let enrolments = (sample("EB13"), file("EB14", &[enrolment("3", "B", &format!("N{code}"))]));
+        assert_eq!(outcome_of(EB13, &enrolments.0, &enrolments.1, 2), maker, "{code}");
+        assert_eq!(outcome_of(EB13, &enrolments.0, &enrolments.1, 1), Maker::None);
+    }
+    assert_eq!(Outcome::None.maker(), Maker::None);
+}
+
+#[test]
+fn q3b_the_lines_of_the_rules() {
+    let (request, result) = debits(
+        &[(10_000, "0"), (20_000, "2"), (15_000, "0")],
+        &[(2, 1_000, "P0021"), (3, 15_000, "N0096")],
+    );
+    let text = "accepted 3 45000 29000 16000\n\
+                1 whole 10000 0 ---- ----\n\
+                2 part 19000 1000 0021 bank\n\
+                3 refused 0 15000 0096 centre\n";
+    assert_eq!(posted(&request, &result), text);
+}
+
+#[test]
+fn q3c_a_count_of_zero_is_good_without_the_centre() {
+    let zero = |results: &[&str]| {
+        let bodies: Vec<_> = results
+            .iter()
+            .enumerate()
+            .map(|(k, result)| debit(500, "0", &format!("P{k}"), result))
+            .collect();
+        with_item_10(&file("EB22", &bodies), 0)
+    };
+    for good in [&[][..], &["N0021"], &["P    "], &["N0012", "P0096", "NA018"]] {
+        assert_eq!(zero(good), accepted(), "{good:?}");
+    }
+    assert_eq!(zero(&["N0021", "N0088"]), answer(0, 6, 3, 10, "0000"));
+    // EB14 has no such count, whoever set its codes.
+    assert_eq!(read(EB14, &file("EB14", &[enrolment("1", "A", "N0096")])), accepted());
 }
 
 // --------------------------------------------------------------- the generator
@@ -1125,7 +1333,11 @@ struct Seen {
     whole: u64,
     part: u64,
     part_blank: u64,
+    part_by_bank: u64,
+    part_by_centre: u64,
     refused: u64,
+    refused_by_bank: u64,
+    refused_by_centre: u64,
     records: u64,
     ends: u64,
     small_amounts: u64,
@@ -1165,7 +1377,11 @@ fn generated_inputs() {
             seen.whole,
             seen.part,
             seen.part_blank,
+            seen.part_by_bank,
+            seen.part_by_centre,
             seen.refused,
+            seen.refused_by_bank,
+            seen.refused_by_centre,
             seen.records,
             seen.ends,
             seen.small_amounts,
@@ -1278,7 +1494,7 @@ impl Run {
         let places: &[(usize, usize)] = match kind {
             Kind::EB13 | Kind::EB14 => &[(27, 8), (35, 8), (51, 8), (59, 8)],
             Kind::EB21 => &[(27, 8), (35, 8), (43, 13)],
-            Kind::EB22 => &[(27, 8), (35, 8), (43, 13), (56, 8), (64, 13)],
+            Kind::EB22 => &[(27, 8), (35, 8), (43, 13), (56, 8), (64, 13), (77, 8)],
         };
         let (start, length) = self.rng.pick(places);
         let at = file.len() - kind.record_length() + start + self.rng.index(length);
@@ -1368,12 +1584,17 @@ impl Run {
                 assert!(is_table_code(code) || code == b"    ");
                 seen.part += 1;
                 seen.part_blank += u64::from(code == b"    ");
+                seen.part_by_bank += u64::from(outcome.maker() == Maker::Bank);
+                seen.part_by_centre += u64::from(outcome.maker() == Maker::Centre);
             }
             Outcome::Refused { won, code } => {
                 assert!(*won > 0 && is_table_code(code));
                 seen.refused += 1;
+                seen.refused_by_bank += u64::from(outcome.maker() == Maker::Bank);
+                seen.refused_by_centre += u64::from(outcome.maker() == Maker::Centre);
             }
         }
+        assert_eq!(outcome.maker(), maker_of(&outcome.code()));
     }
 
     /// Results in another order, numbered afresh, say the same.
@@ -1413,10 +1634,11 @@ impl Run {
             assert_eq!(text.lines().count(), taken.len() + 1);
             for (place, line) in text.lines().skip(1).enumerate() {
                 let words: Vec<&str> = line.split(' ').collect();
-                assert_eq!(words.len(), 5);
+                assert_eq!(words.len(), 6);
                 assert_eq!(words[0], (place + 1).to_string());
                 assert_eq!(words[2], taken[place].to_string());
                 assert_eq!(words[3], not_taken[place].to_string());
+                assert_eq!(words[5], last_word(words[4]));
             }
         } else {
             let code = std::str::from_utf8(&told.code).unwrap();

@@ -1,8 +1,8 @@
-//! The reference against the rules of day files: the places where two careful readers of them could differ (q2a to q2j),
-//! every byte of the contents, every number that a body can be refused with, counts, cuts and round trips.
+//! The reference against the rules of day files: the places where two careful readers of them could differ (q2a to q2j, and
+//! q3c of item 10), every byte of the contents, every number that a body can be refused with, counts, cuts and round trips.
 
 use super::itself::{answer, debit, enrolment, file, length, number, put as put_in, sample};
-use outside::{day_body, day_read, day_write, eight_of_day, read, ten, Answer, DayAnswer, DayBody};
+use outside::{day_body, day_read, day_write, eight_of_day, read, ten_of_body, Answer, DayAnswer, DayBody};
 
 // ------------------------------------------------------------------- builders
 // Written with Rust's padding, without any help from the crate.
@@ -141,11 +141,11 @@ fn q2a_the_shape_of_an_answer() {
     let (told, n) = day_read(&day(&bodies));
     assert_eq!(eight_of_day(&told, n), [33, 3, 0, 4, 2, 6, 0x3030_3631, 0]);
     let (told, body) = day_body(&day(&bodies), 1);
-    assert_eq!(ten(&told, &body), [33, 3, 0, 4, 2, 6, 0x3030_3631, 0, 0, 0]);
+    assert_eq!(ten_of_body(&told, &body), [33, 3, 0, 4, 2, 6, 0x3030_3631, 0, 0, 0]);
     let (told, body) = day_body(&file, 1);
-    assert_eq!(ten(&told, &body), [0, 0, 0, 0, 0, 0, none, 1, 55, 600]);
+    assert_eq!(ten_of_body(&told, &body), [0, 0, 0, 0, 0, 0, none, 1, 55, 600]);
     let (told, body) = day_body(&file, 5);
-    assert_eq!(ten(&told, &body), [0, 0, 0, 0, 0, 0, none, 2, 0, 0]);
+    assert_eq!(ten_of_body(&told, &body), [0, 0, 0, 0, 0, 0, none, 2, 0, 0]);
 }
 
 #[test]
@@ -384,6 +384,28 @@ fn q2j_repeated_names() {
         let other = (String::from_utf8(other).unwrap(), b.1.clone());
         assert_eq!(told_by_both(&[a.clone(), other]).number, 33);
     }
+}
+
+/// The reader is asked, so bodies too count what the centre refused; of the samples' results that is one.
+#[test]
+fn q3c_item_10_of_a_body() {
+    let with_count = |number: u64| {
+        let (name, file) = body("EB220315");
+        (name, put_in("EB22", &file, 4, 77, format!("{number:08}").as_bytes()))
+    };
+    for which in 0..3 {
+        for number in [0, 1, 2, 3, 99_999_999] {
+            let mut bodies = vec![body("EB130315"), body("EB210315")];
+            bodies.insert(which, with_count(number));
+            let wrong = refused(which as u64 + 1, answer(0, 6, 4, 10, "0000"));
+            assert_eq!(told_by_both(&bodies), if number == 1 { accepted() } else { wrong });
+        }
+    }
+    // Before another name, and before the next body.
+    let (_, file) = with_count(2);
+    let renamed = ("EB220316".to_string(), file);
+    let broken = ("EB210315".to_string(), vec![]);
+    assert_eq!(told_by_both(&[renamed, broken]), refused(1, answer(0, 6, 4, 10, "0000")));
 }
 
 // --------------------------------------------------------- counts and numbers

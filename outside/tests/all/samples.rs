@@ -1,10 +1,10 @@
 //! The samples for others: both implementations say what stands beside each, and so does the example in C.
 
 use outside::chars::spaces;
-use outside::layout::{Kind, CENTRE_CODES};
+use outside::layout::{is_centre_code, Kind};
 use outside::{
     day_body, day_read, eight_of_day, eight_of_part, evidence_compare, evidence_part, evidence_read, gen,
-    pair, proved, read, ten, EvidencePart,
+    pair, proved, read, ten_of_body, EvidencePart,
 };
 use std::ffi::OsString;
 use std::path::{Path, PathBuf};
@@ -183,7 +183,7 @@ fn said(sample: &Sample) -> [String; 2] {
             let (answer, bodies) = day_read(file);
             let ours = |which: u64| {
                 let (answer, body) = day_body(file, which);
-                ten(&answer, &body)
+                ten_of_body(&answer, &body)
             };
             let theirs = |which: u64| proved::day_body(file, which);
             [
@@ -255,13 +255,25 @@ fn the_samples_are_many_enough() {
     for code in "0011 0061 0068 0075 0081 0088 0089 0090 0098 9998 A011 A012".split(' ') {
         assert!(any(false, &|s| s.expected.ends_with(code)), "no file is refused with {code}");
     }
+    for told in ["4 4 10 0088", "6 4 10 0000"] {
+        let line = format!("refused 0 {told}");
+        assert!(any(false, &|s| s.expected == line), "no file is told {line}");
+    }
     for kind in [Kind::EB13, Kind::EB21] {
         let accepted = any(true, &|s| s.number == kind.number() && s.expected.starts_with("accepted"));
         assert!(accepted, "no accepted pair of {kind:?}");
     }
-    for told in
-        ["0 12 0 5", "0 13 1 11", "0 13 1 6", "0 13 2 5", "0 14 1 6", "0 14 1 13", "2 2 0 0", "2 7 2 11"]
-    {
+    for told in [
+        "0 12 0 5",
+        "0 13 1 11",
+        "0 13 1 6",
+        "0 13 2 5",
+        "0 14 1 6",
+        "0 14 1 13",
+        "2 2 0 0",
+        "2 6 2 10",
+        "2 7 2 11",
+    ] {
         let line = format!("refused {told} 0000");
         assert!(any(true, &|s| s.expected == line), "no pair is told {line}");
     }
@@ -303,7 +315,7 @@ fn the_samples_of_evidence_are_many_enough() {
 fn the_samples_of_days_are_many_enough() {
     let samples = samples();
     let days = || samples.iter().filter(|sample| matches!(sample.files, Files::Day(_)));
-    for told in ["accepted", "refused 30 0 ", "refused 31 0 ", "refused 32 3 "] {
+    for told in ["accepted", "refused 30 0 ", "refused 31 0 ", "refused 32 3 ", "refused 33 4 0 6 4 10 "] {
         assert!(days().any(|sample| sample.expected.starts_with(told)), "no day file is told {told}");
     }
     for number in [1, 2, 4, 5, 6, 7] {
@@ -321,45 +333,57 @@ fn the_samples_of_days_are_many_enough() {
     }
 }
 
+/// The debits of a kind, by themselves, in pairs and in day files: data records and trailer of each whole file.
+fn debits<'a>(sample: &'a Sample, kind: &[u8; 4]) -> Vec<(&'a [u8], &'a [u8])> {
+    let files = match &sample.files {
+        Files::Day(day) => gen::day_contents(day).into_iter().map(|place| &day[place.body]).collect(),
+        files => files.all(),
+    };
+    let whole = |file: &&[u8]| file.len() >= 300 && file.len().is_multiple_of(150);
+    let of_kind =
+        files.into_iter().filter(whole).filter(|file| file.starts_with(b"H") && &file[19..23] == kind);
+    of_kind.map(|file| file[150..].split_at(file.len() - 300)).collect()
+}
+
 /// What the rules leave open today is chosen so that a stricter reading would not refuse it.
 #[test]
 fn the_samples_keep_stricter_rules_too() {
-    let mut seen = [0, 0, 0];
+    let mut seen = [0, 0];
     for sample in samples() {
-        let files = match &sample.files {
-            Files::Day(day) => gen::day_contents(day).into_iter().map(|place| &day[place.body]).collect(),
-            files => files.all(),
-        };
-        for file in files.iter().filter(|file| file.len() >= 300 && file.len() % 150 == 0) {
-            let (data, trailer) = file[150..].split_at(file.len() - 300);
-            for record in data.chunks(150).filter(|_| file.starts_with(b"H") && &file[19..23] == b"EB21") {
-                let passbook = &record[73..89];
-                let kept =
-                    passbook[2..].iter().all(|b| b.is_ascii_alphanumeric() || *b == b' ' || *b < 0x20);
-                assert!(passbook.starts_with(b"00") && kept, "passbook text of {}", sample.name);
-                seen[0] += 1;
-            }
-            if &file[19..23] == b"EB22" && trailer.starts_with(b"T") {
-                let centre =
-                    data.chunks(150).filter(|r| r[68] == b'N' && is_centre_code(&r[69..73])).count();
-                assert_eq!(
-                    trailer[77..85],
-                    *format!("{centre:08}").as_bytes(),
-                    "item 10 of {}",
-                    sample.name
-                );
-                assert!(spaces(&trailer[111..140]));
-                seen[1] += 1;
-            }
+        for record in debits(&sample, b"EB21").into_iter().flat_map(|(data, _)| data.chunks(150)) {
+            let passbook = &record[73..89];
+            let kept = passbook[2..].iter().all(|b| b.is_ascii_alphanumeric() || *b == b' ' || *b < 0x20);
+            assert!(passbook.starts_with(b"00") && kept, "passbook text of {}", sample.name);
+            seen[0] += 1;
         }
         if let Files::Evidence(file) | Files::Consent(_, file) = &sample.files {
             for kind in kinds_of_evidence(sample.number, file) {
                 assert_ne!(kind, b'2', "evidence of {} that is not signed", sample.name);
-                seen[2] += 1;
+                seen[1] += 1;
             }
         }
     }
-    assert!(seen[0] > 20 && seen[1] > 10 && seen[2] > 10, "{seen:?}");
+    assert!(seen[0] > 20 && seen[1] > 10, "{seen:?}");
+}
+
+/// Item 10 of an EB22 is the number of "N" records with a code of the centre, whatever else is wrong with the sample, but
+/// for those that are refused at item 10.
+#[test]
+fn the_samples_count_what_the_centre_refused() {
+    let mut seen = [0, 0];
+    for sample in samples() {
+        let refused_there = sample.expected.split(' ').rev().nth(1) == Some("10");
+        for (data, trailer) in
+            debits(&sample, b"EB22").into_iter().filter(|(_, last)| last.starts_with(b"T"))
+        {
+            let centre = data.chunks(150).filter(|r| r[68] == b'N' && is_centre_code(&r[69..73])).count();
+            let right = trailer[77..85] == *format!("{centre:08}").as_bytes();
+            assert_eq!(right, !refused_there, "item 10 of {}", sample.name);
+            assert!(spaces(&trailer[111..140]));
+            seen[usize::from(right)] += 1;
+        }
+    }
+    assert!(seen[0] >= 4 && seen[1] > 10, "{seen:?}");
 }
 
 /// Item 10 of every record of an accepted file that has evidence.
@@ -370,10 +394,6 @@ fn kinds_of_evidence(profile: u32, file: &[u8]) -> Vec<u8> {
         _ => None,
     });
     parts.filter(|(_, length)| *length > 0).map(|(start, _)| file[start - 13]).collect()
-}
-
-fn is_centre_code(code: &[u8]) -> bool {
-    CENTRE_CODES.split_ascii_whitespace().any(|known| known.as_bytes() == code)
 }
 
 /// Compiled and linked as a reader of the manual would, with every warning an error.

@@ -41,7 +41,7 @@ fn files(kind: Kind, draft: &Draft) -> Vec<(&'static str, u64, Vec<u8>)> {
         file
     };
     let last = good.len() - 2 * size;
-    let total = good.len() - size + if kind == Kind::EB22 { 76 } else { 34 };
+    let total = good.len() - size + if kind == Kind::EB22 { 84 } else { 34 };
     vec![
         ("the last item is broken", 4, with(&|file| *file.last_mut().expect("a file") = 0x1f)),
         ("a record of another institution", 5, with(&|file| put(file, last + size + 9, b"9999999999"))),

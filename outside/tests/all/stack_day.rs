@@ -27,7 +27,7 @@ fn days(good: &DayDraft) -> Vec<(&'static str, u64, DayDraft)> {
         ("good", 0, good.clone()),
         ("the last name is there already", 32, named_twice),
         ("the last body is broken at its end", 33, with(&|file| *file.last_mut().expect("a file") = 0x1f)),
-        ("a total of the last body is wrong", 33, with(&|file| put(file, trailer + 27, b"00000429"))),
+        ("a total of the last body is wrong", 33, with(&|file| put(file, trailer + 77, b"00000431"))),
         ("the last body has a record too many", 33, with(&|file| file.extend_from_within(..size))),
         ("the last body has another name", 33, another_name),
         ("a body too many", 30, too_many),

@@ -7,7 +7,8 @@ use outside::gen::{self, DayDraft, Draft, EvidenceDraft, NamedBody, Rng};
 use outside::layout::{Kind, PairKind};
 use outside::proved::{DayParts, EvidenceParts, Parts};
 use outside::{
-    day_read, day_write, eight_of_day, evidence_read, evidence_write, linked, pair, read, six, write,
+    day_read, day_write, eight_of_day, evidence_read, evidence_write, linked, outcome, pair, read, six,
+    ten_of_outcome, write, Maker,
 };
 use std::hint::black_box;
 use std::time::{Duration, Instant};
@@ -39,8 +40,10 @@ pub fn print() {
     let cases = [
         Case { name: "read EB21", sizes: SIZES, measure: |rng, n| reading(rng, Kind::EB21, n) },
         Case { name: "read EB13", sizes: SIZES, measure: |rng, n| reading(rng, Kind::EB13, n) },
+        Case { name: "read EB22", sizes: SIZES, measure: reading_results },
         Case { name: "write EB21", sizes: SIZES, measure: writing },
         Case { name: "pair debit", sizes: SIZES, measure: pairing },
+        Case { name: "outcome", sizes: SIZES, measure: asking },
         Case { name: "read EI13", sizes: EVIDENCE_SIZES, measure: reading_evidence },
         Case { name: "write EI13", sizes: EVIDENCE_SIZES, measure: writing_evidence },
         Case { name: "read day", sizes: DAY_SIZES, measure: reading_a_day },
@@ -98,14 +101,22 @@ fn request_of(rng: &mut Rng, kind: Kind, n: usize) -> Draft {
 }
 
 fn reading(rng: &mut Rng, kind: Kind, n: usize) -> [f64; 3] {
-    let file = request_of(rng, kind, n).file();
+    reading_file(kind, &request_of(rng, kind, n).file())
+}
+
+/// A result whose codes are all the last of the centre's list, which a search from the front finds last.
+fn reading_results(rng: &mut Rng, n: usize) -> [f64; 3] {
+    reading_file(Kind::EB22, &refused(&request_of(rng, Kind::EB21, n), 1, b"N9999").file())
+}
+
+fn reading_file(kind: Kind, file: &[u8]) -> [f64; 3] {
     let kind = kind.number();
-    assert_eq!(linked::read(kind, &file), read(kind, &file).five());
-    assert_eq!(linked::read(kind, &file)[1], 0);
+    assert_eq!(linked::read(kind, file), read(kind, file).five());
+    assert_eq!(linked::read(kind, file)[1], 0);
     in_turns([
-        &mut || linked::read(kind, black_box(&file))[1],
-        &mut || read(kind, black_box(&file)).number,
-        &mut || checksum(black_box(&file)),
+        &mut || linked::read(kind, black_box(file))[1],
+        &mut || read(kind, black_box(file)).number,
+        &mut || checksum(black_box(file)),
     ])
 }
 
@@ -127,20 +138,20 @@ fn writing(rng: &mut Rng, n: usize) -> [f64; 3] {
     ])
 }
 
-/// Every so many of the requests answered with "N", the last of them first.
-fn refused(request: &Draft, one_in: usize) -> Draft {
+/// Every so many of the requests answered with "N" and a code, the last of them first.
+fn refused(request: &Draft, one_in: usize, told: &[u8; 5]) -> Draft {
     let mut result = request.clone();
     let pair = request.kind.pair();
     result.kind = pair.result();
     result.bodies = request.bodies.iter().rev().step_by(one_in).cloned().collect();
     let place = gen::body_item(result.kind, pair.result_item());
-    result.bodies.iter_mut().for_each(|body| body[place.clone()].copy_from_slice(b"N0021"));
+    result.bodies.iter_mut().for_each(|body| body[place.clone()].copy_from_slice(told));
     result
 }
 
 fn pairing(rng: &mut Rng, n: usize) -> [f64; 3] {
     let request = request_of(rng, Kind::EB21, n);
-    let (request, result) = (request.file(), refused(&request, 2).file());
+    let (request, result) = (request.file(), refused(&request, 2, b"N0021").file());
     let kind = Kind::EB21.number();
     let [mut taken, mut not_taken, mut ones, mut others] = [(); 4].map(|()| vec![0; n]);
     let told = linked::pair(kind, &request, &result, &mut taken, &mut not_taken);
@@ -149,6 +160,21 @@ fn pairing(rng: &mut Rng, n: usize) -> [f64; 3] {
     in_turns([
         &mut || linked::pair(kind, black_box(&request), &result, &mut taken, &mut not_taken)[1],
         &mut || pair(kind, black_box(&request), &result, &mut ones, &mut others).number,
+        &mut || checksum(black_box(&request)) ^ checksum(black_box(&result)),
+    ])
+}
+
+/// The last request of such a pair, which the centre refused, asked for by itself.
+fn asking(rng: &mut Rng, n: usize) -> [f64; 3] {
+    let request = request_of(rng, Kind::EB21, n);
+    let (request, result) = (request.file(), refused(&request, 2, b"N9999").file());
+    let (kind, last) = (Kind::EB21.number(), n as u64);
+    let (answer, told) = outcome(kind, &request, &result, last);
+    assert_eq!(linked::outcome(kind, &request, &result, last), ten_of_outcome(&answer, &told));
+    assert_eq!(told.maker(), Maker::Centre);
+    in_turns([
+        &mut || linked::outcome(kind, black_box(&request), &result, last)[1],
+        &mut || outcome(kind, black_box(&request), &result, last).0.number,
         &mut || checksum(black_box(&request)) ^ checksum(black_box(&result)),
     ])
 }
@@ -195,7 +221,7 @@ fn day_of(rng: &mut Rng, n: usize) -> DayDraft {
     let mut day = DayDraft::default();
     for pair in PairKind::ALL {
         let request = request_of(rng, pair.request(), n / 4);
-        for draft in [&request, &refused(&request, 1)] {
+        for draft in [&request, &refused(&request, 1, b"N0021")] {
             day.bodies.push(NamedBody { name: gen::name_of(draft), file: draft.file() });
         }
     }

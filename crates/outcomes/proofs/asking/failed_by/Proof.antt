@@ -23,17 +23,20 @@ word-requires c κs = search needs
 byte-requires : tie.Need-byte-requires
 byte-requires c κs = search needs
 
+maker-of-requires : tie.Need-maker-of-requires
+maker-of-requires c κs = search needs
+
 returns : tie.Need-returns
 unfolding failedBy markIn codeIn
 returns c =
-    let m = c .before .before .before .before in
-    rw (← m .mark-start .ensures, ← c .before .byte .ensures .0, eq-eqb _ 0x50 (c .if1 .taken), ← c .before .before .before .part .ensures .0, c .before .before .word .ensures)
+    let m = c .before .before .before .before .before in
+    rw (← m .mark-start .ensures, ← c .before .byte .ensures .0, eq-eqb _ 0x50 (c .if1 .taken), ← c .before .before .before .before .part .ensures .0, ← c .before .before .before .word .ensures, c .before .before .maker-of .ensures)
 
 returns-2 : tie.Need-returns-2
 unfolding failedBy markIn codeIn
 returns-2 c =
-    let m = c .before .before .before .before in
-    rw (← m .mark-start .ensures, ← c .before .byte .ensures .0, ne-eqb _ 0x50 (c .if1 .left), ← c .before .before .before .part .ensures .0, c .before .before .word .ensures)
+    let m = c .before .before .before .before .before in
+    rw (← m .mark-start .ensures, ← c .before .byte .ensures .0, ne-eqb _ 0x50 (c .if1 .left), ← c .before .before .before .before .part .ensures .0, ← c .before .before .before .word .ensures, c .before .before .maker-of .ensures)
 
 pub failed-by-spec : {M : Type 1} → statement M
 failed-by-spec =
@@ -43,6 +46,7 @@ failed-by-spec =
     add-part
     part-requires
     word-requires
+    maker-of-requires
     byte-requires
     returns
     returns-2)

@@ -1,6 +1,6 @@
 -- One piece after the other.
 use Rattle.posting.proofs.Following.{put, put-then}
-use Rattle.posting.specs.Lines.{numberThen, codeLine, refusedWord, refusalLine}
+use Rattle.posting.specs.Lines.{numberThen, codeThen, refusedWord, refusalLine}
 use native.Mathlib.Omega.{arith}
 use borrow.Author.Needs.{needs}
 use Rattle.posting.proofs.lines.put_refusal.Statement.{statement}
@@ -45,7 +45,7 @@ returns c =
     let p3 = put (numberThen (a .number) 0x20) (c3 .put-number2 .ensures .0) (c3 .put-number2 .ensures .1 .0) in
     let p4 = put (numberThen (a .rec) 0x20) (c4 .put-number3 .ensures .0) (c4 .put-number3 .ensures .1 .0) in
     let p5 = put (numberThen (a .item) 0x20) (c5 .put-number4 .ensures .0) (c5 .put-number4 .ensures .1 .0) in
-    let p6 = put (codeLine (a .code)) (c6 .put-code .ensures .0) (c6 .put-code .ensures .1 .0) in
+    let p6 = put (codeThen (a .code) 0x0A) (c6 .put-code .ensures .0) (c6 .put-code .ensures .1 .0) in
     let p = put-then p1 (put-then p2 (put-then p3 (put-then p4 (put-then p5 p6 (omega arith)) (omega arith)) (omega arith)) (omega arith)) (omega arith) in
     (p .place, (p .after, omega arith))
 

@@ -3,7 +3,7 @@ use Prim.Native.Nat.{_≤_, _-_, _+_, _*_}
 use Rattle.laws.specs.Joined.{joined}
 use Rattle.matching.proofs.Found.{result-of, results-length}
 use Rattle.posting.proofs.Following.{Put, put, joined-none, joined-next}
-use Rattle.posting.specs.Lines.{requestLine}
+use Rattle.posting.specs.Lines.{requestLine, lineMost}
 use Rattle.posting.specs.Posting.{lineAt}
 use Rattle.kinds.specs.Pairs.{debitPair}
 use lib.ListN.{length}
@@ -16,7 +16,7 @@ use Rattle.posting.proofs.posting.put_requests.Tie as tie
 
 abbrev Inv-loop : tie.InvT-loop
 Inv-loop request result results n text₀ at place₀ i₀ text place i =
-    (i ≤ n) × (length text ≡ length text₀) × (place ≤ at + i * 80) × Put at (joined (lineAt request result) i) text₀ place text
+    (i ≤ n) × (length text ≡ length text₀) × (place ≤ at + i * lineMost) × Put at (joined (lineAt request result) i) text₀ place text
 
 abbrev μ-loop : tie.MeasureT-loop
 μ-loop request result results n text₀ at place₀ i₀ text place i = n - i

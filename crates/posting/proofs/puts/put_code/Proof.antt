@@ -1,11 +1,11 @@
--- The line's own bytes.
+-- Its own bytes.
 use mathlib.Core.Path.{_∙_}
 use borrow.Author.Needs.{needs}
 use Rattle.posting.proofs.puts.put_code.Statement.{statement}
 use Rattle.posting.proofs.puts.put_code.Tie as tie
 
-code-line-requires : tie.Need-code-line-requires
-code-line-requires c κs = search needs
+code-then-requires : tie.Need-code-then-requires
+code-then-requires c κs = search needs
 
 slice-aggregate-put-bytes : tie.Need-slice-aggregate-put-bytes
 slice-aggregate-put-bytes c = search needs
@@ -19,10 +19,10 @@ same-length c = search needs
 returns : tie.Need-returns
 returns c =
     let p = c .before .before .put-bytes in
-    let l = c .before .before .before .before .before .code-line in
+    let l = c .before .before .before .before .before .code-then in
     (p .ensures .0 ∙ rw (l .ensures), (p .ensures .1 ∙ rw (l .ensures), search needs))
 
 pub put-code-spec : {M : Type 1} → statement M
 put-code-spec =
     tie.close
-    (tie.spec code-line-requires slice-aggregate-put-bytes put-bytes-requires same-length returns)
+    (tie.spec code-then-requires slice-aggregate-put-bytes put-bytes-requires same-length returns)

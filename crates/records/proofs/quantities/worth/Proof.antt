@@ -44,6 +44,18 @@ amount-requires-2 c κs = search needs
 if-equal-requires-3 : tie.Need-if-equal-requires-3
 if-equal-requires-3 c κs = search needs
 
+enum-known-quantity-4 : tie.Need-enum-known-quantity-4
+enum-known-quantity-4 c = search needs
+
+byte-requires-4 : tie.Need-byte-requires-4
+byte-requires-4 c κs = search needs
+
+by-centre-requires : tie.Need-by-centre-requires
+by-centre-requires c κs = search needs
+
+if-equal-requires-4 : tie.Need-if-equal-requires-4
+if-equal-requires-4 c κs = search needs
+
 returns : tie.Need-returns
 unfolding worth
 returns c = (rw (c .enum-told .given .1), search needs)
@@ -67,6 +79,13 @@ returns-5 c = (
   omega (arith, c .if-equal3 .ensures .1, c .before .amount2 .ensures .1),
 )
 
+returns-6 : tie.Need-returns-6
+unfolding worth
+returns-6 c = (
+  rw (c .before .before .before .before .quantity4 .given .1, ← c .before .before .byte4 .ensures .0, ← c .before .by-centre .ensures .0) (c .if-equal4 .ensures .0),
+  omega (arith, c .if-equal4 .ensures .1, c .before .by-centre .ensures .1),
+)
+
 pub worth-spec : {M : Type 1} → statement M
 worth-spec =
     tie.close
@@ -84,8 +103,13 @@ worth-spec =
     byte-requires-3
     amount-requires-2
     if-equal-requires-3
+    enum-known-quantity-4
+    byte-requires-4
+    by-centre-requires
+    if-equal-requires-4
     returns
     returns-2
     returns-3
     returns-4
-    returns-5)
+    returns-5
+    returns-6)

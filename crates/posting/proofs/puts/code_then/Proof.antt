@@ -1,15 +1,15 @@
 -- By whether the code is blank.
 use Rattle.laws.specs.Tabulate.{tabulate}
-use Rattle.posting.specs.Lines.{codeLine}
+use Rattle.posting.specs.Lines.{codeThen}
 use Rattle.numbers.specs.Numbers.{letterOf}
 use borrow.Author.Tests.{eq-eqb, ne-eqb}
 use borrow.Author.Needs.{needs}
-use Rattle.posting.proofs.puts.code_line.Statement.{statement}
-use Rattle.posting.proofs.puts.code_line.Tie as tie
+use Rattle.posting.proofs.puts.code_then.Statement.{statement}
+use Rattle.posting.proofs.puts.code_then.Tie as tie
 
 returns : tie.Need-returns
-unfolding codeLine tabulate letterOf
-returns c = rw (eq-eqb _ 0x20202020 (c .before .before .if1 .taken))
+unfolding codeThen tabulate letterOf
+returns c = rw (eq-eqb _ 0x20202020 (c .if1 .taken))
 
 letter-requires : tie.Need-letter-requires
 letter-requires c κs = search needs
@@ -24,7 +24,7 @@ letter-requires-4 : tie.Need-letter-requires-4
 letter-requires-4 c κs = search needs
 
 returns-2 : tie.Need-returns-2
-unfolding codeLine tabulate
+unfolding codeThen tabulate
 returns-2 c =
     rw (
       ne-eqb _ 0x20202020 (c .before .before .before .before .if1 .left),
@@ -34,8 +34,8 @@ returns-2 c =
       c .letter4 .ensures,
     )
 
-pub code-line-spec : {M : Type 1} → statement M
-code-line-spec =
+pub code-then-spec : {M : Type 1} → statement M
+code-then-spec =
     tie.close
     (tie.spec
     returns
