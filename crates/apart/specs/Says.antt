@@ -18,7 +18,7 @@ use Rattle.apart.specs.Taking.{apartOf, apartAfter}
 
 -- what is said of a file under a number, where there is room for so many bytes
 pub data Tells (kind : ℕ) (s : List ℕ) (room : ℕ) : Answer → Type 0 where
-  -- 1: the number is none of EB13 and EB21
+  -- 1: the number names no kind that is written
   other : requestOf kind ≡ Unknown → Tells kind s room (refused 1)
   -- what the reader says, where it refuses the file
   read : (k : Kind) → requestOf kind ≡ Is k → (readOf kind s .number ≡ 0 → ⊥) → Tells kind s room (readOf kind s)

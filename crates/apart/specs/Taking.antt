@@ -32,7 +32,7 @@ apartAs k s room = readAs k s then roomTells (bodiesIn k s) room
 unfoldable pub storedAs : Kind → List ℕ → ℕ → List ℕ
 storedAs k s room = unlessRefused (apartAs k s room) (bodiesIn k s)
 
--- kinds other than EB13 and EB21 are 1
+-- a kind that is not written is 1
 abbrev pub apartNamed : Named → List ℕ → ℕ → Answer
 apartNamed (Is k) s room = apartAs k s room
 apartNamed Unknown s room = refused 1

@@ -17,10 +17,10 @@ ghost use lib.ListN.{length};
 use libc::STDIN_FILENO;
 
 // Room for all of standard input.
-pub(crate) fn space() -> [u8; 163840]
-    ensures { λ r. ⌜ 163840 ≡ length r ⌝ }
+pub(crate) fn space() -> [u8; 262144]
+    ensures { λ r. ⌜ 262144 ≡ length r ⌝ }
 {
-    [0; 163840]
+    [0; 262144]
 }
 
 // The samples and the list of cases stand on standard input, which is held whole.

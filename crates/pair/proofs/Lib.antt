@@ -1,5 +1,6 @@
 -- Laws about the definitions of specs/.
 pub mod Stages
+pub mod Others
 pub mod Marks
 pub mod Possible
 pub mod Keys

@@ -42,7 +42,7 @@ module _ (k : Kind) (s : List ℕ) where
   read-short f = read-stops (refused 2) (length-short k s f) (λ z. omega arith)
 
   -- the stages after a good one
-  after-length : Lengths k s → readAs k s ≡ (recordsTell k s then totalsTell k s then keysTell k s)
+  pub after-length : Lengths k s → readAs k s ≡ (recordsTell k s then totalsTell k s then keysTell k s)
   unfolding readAs
   after-length l = then-second _ _ (number-of (good-length k s l))
 

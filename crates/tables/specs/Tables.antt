@@ -81,7 +81,7 @@ dataFront =
     row 3 9 10 AsHeader c0000 ∷
     []
 
--- EB13, EB14 data, but for item 12
+-- enrolment data, but for item 12
 unfoldable pub enrolmentData : Row → List Row
 enrolmentData result = dataFront ++ (
     row 4 19 6 NotLater cA011 ∷
@@ -105,7 +105,7 @@ enrolmentRequestData = enrolmentData (row 12 91 5 spaces c0089)
 unfoldable pub enrolmentResultData : List Row
 enrolmentResultData = enrolmentData (row 12 91 5 Failed c0088)
 
--- EB21, EB22 data, but for item 8 and what else item 13 asks
+-- debit data, but for item 8 and what else item 13 asks
 unfoldable pub debitData : Row → List Row → List Row
 debitData result more = dataFront ++ (
     row 4 19 7 digits c0011 ∷
@@ -140,7 +140,7 @@ trailerFront =
     row 5 27 8 digits c0088 ∷
     []
 
--- EB13, EB14, but for the MAC
+-- enrolment, but for the MAC
 unfoldable pub enrolmentTrailer : Row → List Row
 enrolmentTrailer mac = trailerFront ++ (
     row 6 35 8 digits c0088 ∷
