@@ -1,7 +1,9 @@
 /* Files of the Korean CMS direct debit service, read whole or not at all.
  *
  * A kind is its four letters as one big-endian number: "EB21" is 0x45423231. A pair is named by the kind of its
- * request: CMS_EB13 is enrolment (EB13 with EB14), CMS_EB21 is debit (EB21 with EB22).
+ * request: CMS_EB13 is enrolment (EB13 with EB14), CMS_EB21 is next-day debit (EB21 with EB22), CMS_EC21 is same-day
+ * debit (EC21 with EC22). Same-day debits have the items, totals and keys of next-day ones; but their least amount, and
+ * the least that may be taken of type "0", is 300 won in place of 140.
  * A code is its four bytes in the same way: "0000" is 0x30303030, a blank code 0x20202020.
  * A slice is a pointer and its length; nothing is read or written outside it, and nothing is kept after a call
  * returns. Memory that a call writes may overlap nothing else that is lent to it.
@@ -9,7 +11,7 @@
  * The profile of consent evidence (EI13) is 0 for an ordinary institution. Every other number is one that is partly
  * exempt: its records have a kind of evidence, but a blank extension and no bytes.
  *
- * A day file holds files of the four kinds, which are its bodies: the byte "1", two digits for how many they are (00 to
+ * A day file holds files of the six kinds, which are its bodies: the byte "1", two digits for how many they are (00 to
  * 16), for each its name (8 bytes) and its length (five digits), and then the bodies in that order, with nothing between
  * or behind them. No two names are the same, and each is item 4 of its body's header.
  *
@@ -50,30 +52,35 @@ extern "C" {
  * files came (cms_day_read, cms_day_body, cms_day_write), and no other function changed. 3: the answer of cms_outcome has
  * ten numbers, of which the last is new: who said no. The text of cms_post has the same as one more word on the line of
  * every request. And every function that reads an EB22 refuses one, with 6, whose trailer item 10 is not the number of "N"
- * records with a code of the centre; before, any digits did. */
-#define CMS_FACE 3
+ * records with a code of the centre; before, any digits did. 4: kinds EC21 and EC22 and the pair kind EC21 came: every
+ * function that takes a kind or a pair takes them as it takes EB21 and EB22, and day files hold them; before, they were
+ * 1. No function changed its parameters. */
+#define CMS_FACE 4
 
 #define CMS_EB13 UINT32_C(0x45423133)
 #define CMS_EB14 UINT32_C(0x45423134)
 #define CMS_EB21 UINT32_C(0x45423231)
 #define CMS_EB22 UINT32_C(0x45423232)
+#define CMS_EC21 UINT32_C(0x45433231)
+#define CMS_EC22 UINT32_C(0x45433232)
 
 /* Reads the file as one of the kind. */
 uint64_t cms_read(uint32_t kind, const uint8_t *file, size_t file_length, uint64_t answer[5]);
 
-/* Writes a request file (EB13 or EB21) into the room, from the date (6 bytes), the institution code (10), for EB21
- * header items 6 (7) and 7 (16), which are empty for EB13, and the bodies: data records without their items 1 to 3
- * (101 or 131 bytes each). On success the first bytes of the room are the file, as many as 120 or 150 for each body
- * and two more, and those past it are unchanged. */
+/* Writes a request file (EB13, EB21 or EC21; another kind is 1) into the room, from the date (6 bytes), the institution
+ * code (10), for EB21 and EC21 header items 6 (7) and 7 (16), which are empty for EB13, and the bodies: data records
+ * without their items 1 to 3 (101 or 131 bytes each). On success the first bytes of the room are the file, as many as
+ * 120 or 150 for each body and two more, and those past it are unchanged. */
 uint64_t cms_write(uint32_t kind, const uint8_t *date, size_t date_length, const uint8_t *code, size_t code_length,
                    const uint8_t *item6, size_t item6_length, const uint8_t *item7, size_t item7_length,
                    const uint8_t *bodies, size_t bodies_length, uint8_t *room, size_t room_length,
                    uint64_t answer[5]);
 
-/* Takes a request file (EB13 or EB21; another kind is 1) apart. It answers as cms_read, and then 8 where the bodies have
- * no room for all. On success they hold the data records without their items 1 to 3, one behind the other as cms_write
- * takes them, and bytes past these are unchanged. The other parts for cms_write stand in the file, counted from 0: the
- * date at bytes 27 to 32, the code at 9 to 18, for EB21 item 6 at 33 to 39 and item 7 at 40 to 55. After the five:
+/* Takes a request file (EB13, EB21 or EC21; another kind is 1) apart. It answers as cms_read, and then 8 where the
+ * bodies have no room for all. On success they hold the data records without their items 1 to 3, one behind the other
+ * as cms_write takes them, and bytes past these are unchanged. The other parts for cms_write stand in the file, counted
+ * from 0: the date at bytes 27 to 32, the code at 9 to 18, for EB21 and EC21 item 6 at 33 to 39 and item 7 at 40 to 55.
+ * After the five:
  *   answer[5] length  of all bodies together; 0 when refused */
 uint64_t cms_apart(uint32_t kind, const uint8_t *file, size_t file_length, uint8_t *bodies, size_t bodies_length,
                    uint64_t answer[6]);
@@ -101,9 +108,10 @@ uint64_t cms_outcome(uint32_t pair, const uint8_t *request, size_t request_lengt
  *   answer[7] length  its length; 0 unless the case is 1 */
 uint64_t cms_walk(uint32_t kind, const uint8_t *file, size_t file_length, uint64_t place, uint64_t answer[8]);
 
-/* What the posting program prints for a debit request and its result (a missing file is one of no bytes; one over
- * 64,800 bytes is refusal 3 on its side, before all else). Returns how many bytes of the text that is; those past them
- * are unchanged. Returns 0, with nothing changed, when the text is too short: no output is empty. */
+/* What the posting program prints for a next-day debit request and its result (a missing file is one of no bytes; one
+ * over 64,800 bytes is refusal 3 on its side, before all else). They are EB21 and EB22: another kind is refused as
+ * another name is, with 5 at item 4 of the header. Returns how many bytes of the text that is; those past them are
+ * unchanged. Returns 0, with nothing changed, when the text is too short: no output is empty. */
 uint64_t cms_post(const uint8_t *request, size_t request_length, const uint8_t *result, size_t result_length,
                   uint8_t *text, size_t text_length);
 

@@ -5,7 +5,7 @@
 //! rules, so an answer that stands in no list is a finding, too.
 
 use crate::evidence::layout::Profile;
-use crate::layout::{Kind, PairKind};
+use crate::layout::{Family, Kind, PairKind};
 use crate::model::{Answer, NO_CODE};
 use std::collections::BTreeMap;
 use std::fmt;
@@ -66,6 +66,8 @@ impl fmt::Display for Entry {
 /// A list of answers: `12:0103` is number 4 at item 12 with code 0103, `7@6` another number at an item, without a code.
 type Rows = &'static str;
 
+const NOTHING: Rows = "";
+
 // Headers.
 
 const ENROLMENT_HEADER: Rows = "1:0081 2:0081 3:0088 4:0088 5:0088 5:9998 6:0089 5@4 5@5";
@@ -73,43 +75,43 @@ const DEBIT_HEADER: Rows = "1:0081 2:0081 3:0088 4:0088 5:0088 5:9998 6:0011 7:0
 
 // Data records.
 
-const EB13_DATA: Rows =
+const ENROLMENT_REQUEST_DATA: Rows =
     "1:0081 2:0081 4:A011 5:A012 6:0098 7:0011 8:0098 9:0098 10:0089 11:0098 12:0089 13:0089 14:0088 \
      15:0089 16:0089 5@3 7@6";
-const EB14_DATA: Rows =
+const ENROLMENT_RESULT_DATA: Rows =
     "1:0081 2:0081 4:A011 5:A012 6:0098 7:0011 8:0098 9:0098 10:0089 11:0098 12:0088 13:0089 14:0088 \
      15:0089 16:0089 5@3 7@6";
-const EB21_DATA: Rows =
+const DEBIT_REQUEST_DATA: Rows =
     "1:0081 2:0081 4:0011 5:0098 6:0088 6:0061 7:0098 8:0089 9:0068 10:0098 11:0098 12:0088 13:0075 \
      14:0088 15:0089 5@3 7@11";
-const EB22_DATA: Rows =
+const DEBIT_RESULT_DATA: Rows =
     "1:0081 2:0081 4:0011 5:0098 6:0088 6:0061 7:0098 8:0088 9:0068 10:0098 11:0098 12:0088 13:0075 \
      14:0088 15:0089 5@3 7@11";
 
 // Trailers.
 
-const EB13_TRAILER: Rows =
+const ENROLMENT_REQUEST_TRAILER: Rows =
     "1:0081 2:0081 5:0088 6:0088 7:0090 8:0088 9:0088 10:0089 11:0089 5@3 5@4 6@5 6@6 6@8 6@9";
-const EB14_TRAILER: Rows =
+const ENROLMENT_RESULT_TRAILER: Rows =
     "1:0081 2:0081 5:0088 6:0088 7:0090 8:0088 9:0088 10:0089 11:0088 5@3 5@4 6@5 6@6 6@8 6@9";
-const EB21_TRAILER: Rows =
+const DEBIT_REQUEST_TRAILER: Rows =
     "1:0081 2:0081 5:0088 6:0088 7:0088 8:0090 9:0090 10:0089 11:0089 5@3 5@4 6@5 6@6 6@7";
-const EB22_TRAILER: Rows =
+const DEBIT_RESULT_TRAILER: Rows =
     "1:0081 2:0081 5:0088 6:0088 7:0088 8:0088 9:0088 10:0088 11:0090 12:0088 13:0090 14:0089 15:0088 \
      5@3 5@4 6@5 6@6 6@7 6@8 6@9 6@10";
 
 // Writing: items 1 to 3 of data records and the trailer are the writer's own,
 // so 5 can't occur there, and 6 only for the sum over 13 digits.
 
-const EB13_WRITTEN_HEADER: Rows = "3:0088 4:0088 5:0088 5:9998";
-const EB21_WRITTEN_HEADER: Rows = "3:0088 4:0088 5:0088 5:9998 6:0011 7:0098";
-const EB13_WRITTEN_DATA: Rows =
+const ENROLMENT_WRITTEN_HEADER: Rows = "3:0088 4:0088 5:0088 5:9998";
+const DEBIT_WRITTEN_HEADER: Rows = "3:0088 4:0088 5:0088 5:9998 6:0011 7:0098";
+const ENROLMENT_WRITTEN_DATA: Rows =
     "4:A011 5:A012 6:0098 7:0011 8:0098 9:0098 10:0089 11:0098 12:0089 13:0089 14:0088 15:0089 \
      16:0089 7@6";
-const EB21_WRITTEN_DATA: Rows =
+const DEBIT_WRITTEN_DATA: Rows =
     "4:0011 5:0098 6:0088 6:0061 7:0098 8:0089 9:0068 10:0098 11:0098 12:0088 13:0075 14:0088 15:0089 \
      7@11";
-const EB21_WRITTEN_TRAILER: Rows = "6@7";
+const DEBIT_WRITTEN_TRAILER: Rows = "6@7";
 
 // The pair itself.  Items 3, the key's and the blank ones can't differ when
 // they are compared: 12 and the reading of both files have met them before.
@@ -149,12 +151,14 @@ pub fn all() -> Vec<Entry> {
     }
     list.placeless(Operation::Read(None), 0, &[1]);
     list.placeless(Operation::Walk(None), 0, &[1]);
-    list.writing();
-    for kind in [Kind::EB13, Kind::EB21] {
+    for kind in [Kind::EB13, Kind::EB21, Kind::EC21] {
+        list.placeless(Operation::Write(Some(kind)), 0, &[0, 2, 3, 8]);
+        list.writing(Operation::Write(Some(kind)), kind);
         list.placeless(Operation::Apart(Some(kind)), 0, &[0, 2, 3, 8]);
         list.reading(Operation::Apart(Some(kind)), 0, kind);
     }
-    for other in [Some(Kind::EB14), Some(Kind::EB22), None] {
+    for other in [Some(Kind::EB14), Some(Kind::EB22), Some(Kind::EC22), None] {
+        list.placeless(Operation::Write(other), 0, &[1]);
         list.placeless(Operation::Apart(other), 0, &[1]);
     }
     for pair in PairKind::ALL {
@@ -168,7 +172,7 @@ pub fn all() -> Vec<Entry> {
     list.placeless(Operation::Pair(None), 0, &[1]);
     list.placeless(Operation::Outcome(None), 0, &[1]);
     list.placeless(Operation::Post, 0, &[0]);
-    list.pairing(Operation::Post, PairKind::Debit);
+    list.pairing(Operation::Post, PairKind::NextDay);
     for profile in Profile::ALL {
         list.evidence(profile);
     }
@@ -202,30 +206,29 @@ impl List {
     }
 
     fn reading(&mut self, operation: Operation, side: u64, kind: Kind) {
-        let (header, data, trailer) = match kind {
-            Kind::EB13 => (ENROLMENT_HEADER, EB13_DATA, EB13_TRAILER),
-            Kind::EB14 => (ENROLMENT_HEADER, EB14_DATA, EB14_TRAILER),
-            Kind::EB21 => (DEBIT_HEADER, EB21_DATA, EB21_TRAILER),
-            Kind::EB22 => (DEBIT_HEADER, EB22_DATA, EB22_TRAILER),
+        let (header, data, trailer) = match (kind.family(), kind.is_request()) {
+            (Family::Enrolment, true) => {
+                (ENROLMENT_HEADER, ENROLMENT_REQUEST_DATA, ENROLMENT_REQUEST_TRAILER)
+            }
+            (Family::Enrolment, false) => {
+                (ENROLMENT_HEADER, ENROLMENT_RESULT_DATA, ENROLMENT_RESULT_TRAILER)
+            }
+            (Family::Debit, true) => (DEBIT_HEADER, DEBIT_REQUEST_DATA, DEBIT_REQUEST_TRAILER),
+            (Family::Debit, false) => (DEBIT_HEADER, DEBIT_RESULT_DATA, DEBIT_RESULT_TRAILER),
         };
         self.rows(operation, side, Part::Header, header);
         self.rows(operation, side, Part::Data, data);
         self.rows(operation, side, Part::Trailer, trailer);
     }
 
-    fn writing(&mut self) {
-        let enrolment = Operation::Write(Some(Kind::EB13));
-        self.placeless(enrolment, 0, &[0, 2, 3, 8]);
-        self.rows(enrolment, 0, Part::Header, EB13_WRITTEN_HEADER);
-        self.rows(enrolment, 0, Part::Data, EB13_WRITTEN_DATA);
-        let debit = Operation::Write(Some(Kind::EB21));
-        self.placeless(debit, 0, &[0, 2, 3, 8]);
-        self.rows(debit, 0, Part::Header, EB21_WRITTEN_HEADER);
-        self.rows(debit, 0, Part::Data, EB21_WRITTEN_DATA);
-        self.rows(debit, 0, Part::Trailer, EB21_WRITTEN_TRAILER);
-        self.placeless(Operation::Write(Some(Kind::EB14)), 0, &[1]);
-        self.placeless(Operation::Write(Some(Kind::EB22)), 0, &[1]);
-        self.placeless(Operation::Write(None), 0, &[1]);
+    fn writing(&mut self, operation: Operation, kind: Kind) {
+        let (header, data, trailer) = match kind.family() {
+            Family::Enrolment => (ENROLMENT_WRITTEN_HEADER, ENROLMENT_WRITTEN_DATA, NOTHING),
+            Family::Debit => (DEBIT_WRITTEN_HEADER, DEBIT_WRITTEN_DATA, DEBIT_WRITTEN_TRAILER),
+        };
+        self.rows(operation, 0, Part::Header, header);
+        self.rows(operation, 0, Part::Data, data);
+        self.rows(operation, 0, Part::Trailer, trailer);
     }
 
     fn evidence(&mut self, profile: Profile) {
@@ -259,9 +262,9 @@ impl List {
             self.placeless(operation, side, &[2, 3]);
             self.reading(operation, side, kind);
         }
-        let (headers, results) = match pair {
-            PairKind::Enrolment => (ENROLMENT_HEADERS, ENROLMENT_RESULTS),
-            PairKind::Debit => (DEBIT_HEADERS, DEBIT_RESULTS),
+        let (headers, results) = match pair.family() {
+            Family::Enrolment => (ENROLMENT_HEADERS, ENROLMENT_RESULTS),
+            Family::Debit => (DEBIT_HEADERS, DEBIT_RESULTS),
         };
         self.rows(operation, 0, Part::Header, headers);
         self.rows(operation, 0, Part::Data, results);

@@ -14,6 +14,10 @@ pub enum Kind {
     EB21,
     /// Their failures.
     EB22,
+    /// Same-day debit requests.
+    EC21,
+    /// Their failures.
+    EC22,
 }
 
 /// A pair kind.
@@ -22,11 +26,21 @@ pub enum PairKind {
     /// EB13 and EB14.
     Enrolment,
     /// EB21 and EB22.
+    NextDay,
+    /// EC21 and EC22.
+    SameDay,
+}
+
+/// What the layouts, totals and keys go by.
+#[derive(Clone, Copy, Debug, PartialEq, Eq, Hash, PartialOrd, Ord)]
+pub enum Family {
+    Enrolment,
+    /// Next-day and same-day.
     Debit,
 }
 
 impl Kind {
-    pub const ALL: [Kind; 4] = [Kind::EB13, Kind::EB14, Kind::EB21, Kind::EB22];
+    pub const ALL: [Kind; 6] = [Kind::EB13, Kind::EB14, Kind::EB21, Kind::EB22, Kind::EC21, Kind::EC22];
 
     pub fn letters(self) -> &'static [u8; 4] {
         match self {
@@ -34,6 +48,8 @@ impl Kind {
             Kind::EB14 => b"EB14",
             Kind::EB21 => b"EB21",
             Kind::EB22 => b"EB22",
+            Kind::EC21 => b"EC21",
+            Kind::EC22 => b"EC22",
         }
     }
 
@@ -50,8 +66,17 @@ impl Kind {
     pub fn pair(self) -> PairKind {
         match self {
             Kind::EB13 | Kind::EB14 => PairKind::Enrolment,
-            Kind::EB21 | Kind::EB22 => PairKind::Debit,
+            Kind::EB21 | Kind::EB22 => PairKind::NextDay,
+            Kind::EC21 | Kind::EC22 => PairKind::SameDay,
         }
+    }
+
+    pub fn family(self) -> Family {
+        self.pair().family()
+    }
+
+    pub fn is_debit(self) -> bool {
+        self.pair().is_debit()
     }
 
     pub fn is_request(self) -> bool {
@@ -69,44 +94,67 @@ impl Kind {
 
     /// The lengths of the header's items.
     pub fn header(self) -> &'static [usize] {
-        match self.pair() {
-            PairKind::Enrolment => &[1, 8, 10, 8, 6, 87],
-            PairKind::Debit => &[1, 8, 10, 8, 6, 7, 16, 94],
+        match self.family() {
+            Family::Enrolment => &[1, 8, 10, 8, 6, 87],
+            Family::Debit => &[1, 8, 10, 8, 6, 7, 16, 94],
         }
     }
 
     /// The lengths of a data record's items.
     pub fn data(self) -> &'static [usize] {
-        match self.pair() {
-            PairKind::Enrolment => &[1, 8, 10, 6, 1, 20, 7, 16, 16, 4, 2, 1 + 4, 1, 12, 1, 10],
-            PairKind::Debit => &[1, 8, 10, 7, 16, 13, 13, 1 + 4, 16, 2, 20, 5, 1, 12, 21],
+        match self.family() {
+            Family::Enrolment => &[1, 8, 10, 6, 1, 20, 7, 16, 16, 4, 2, 1 + 4, 1, 12, 1, 10],
+            Family::Debit => &[1, 8, 10, 7, 16, 13, 13, 1 + 4, 16, 2, 20, 5, 1, 12, 21],
         }
     }
 
     /// The lengths of the trailer's items.
     pub fn trailer(self) -> &'static [usize] {
-        match self {
-            Kind::EB13 | Kind::EB14 => &[1, 8, 10, 8, 8, 8, 8, 8, 8, 43, 10],
-            Kind::EB21 => &[1, 8, 10, 8, 8, 8, 13, 8, 13, 63, 10],
-            Kind::EB22 => &[1, 8, 10, 8, 8, 8, 13, 8, 13, 8, 4, 11, 11, 29, 10],
+        match (self.family(), self.is_request()) {
+            (Family::Enrolment, _) => &[1, 8, 10, 8, 8, 8, 8, 8, 8, 43, 10],
+            (Family::Debit, true) => &[1, 8, 10, 8, 8, 8, 13, 8, 13, 63, 10],
+            (Family::Debit, false) => &[1, 8, 10, 8, 8, 8, 13, 8, 13, 8, 4, 11, 11, 29, 10],
         }
     }
 }
 
 impl PairKind {
-    pub const ALL: [PairKind; 2] = [PairKind::Enrolment, PairKind::Debit];
+    pub const ALL: [PairKind; 3] = [PairKind::Enrolment, PairKind::NextDay, PairKind::SameDay];
 
     pub fn request(self) -> Kind {
         match self {
             PairKind::Enrolment => Kind::EB13,
-            PairKind::Debit => Kind::EB21,
+            PairKind::NextDay => Kind::EB21,
+            PairKind::SameDay => Kind::EC21,
         }
     }
 
     pub fn result(self) -> Kind {
         match self {
             PairKind::Enrolment => Kind::EB14,
-            PairKind::Debit => Kind::EB22,
+            PairKind::NextDay => Kind::EB22,
+            PairKind::SameDay => Kind::EC22,
+        }
+    }
+
+    pub fn family(self) -> Family {
+        match self {
+            PairKind::Enrolment => Family::Enrolment,
+            PairKind::NextDay | PairKind::SameDay => Family::Debit,
+        }
+    }
+
+    pub fn is_debit(self) -> bool {
+        self.family() == Family::Debit
+    }
+
+    /// The least that may be asked, unless the type is "1", and the least that may be taken of type "0"; an enrolment asks no
+    /// won.
+    pub fn least_won(self) -> u64 {
+        match self {
+            PairKind::Enrolment => 0,
+            PairKind::NextDay => 140,
+            PairKind::SameDay => 300,
         }
     }
 
@@ -121,33 +169,33 @@ impl PairKind {
     }
 
     pub fn record_length(self) -> usize {
-        match self {
-            PairKind::Enrolment => 120,
-            PairKind::Debit => 150,
+        match self.family() {
+            Family::Enrolment => 120,
+            Family::Debit => 150,
         }
     }
 
     /// The two items that make the key.
     pub fn key(self) -> [usize; 2] {
-        match self {
-            PairKind::Enrolment => [5, 6],
-            PairKind::Debit => [11, 12],
+        match self.family() {
+            Family::Enrolment => [5, 6],
+            Family::Debit => [11, 12],
         }
     }
 
     /// The item at which a fault of the key is placed.
     pub fn key_item(self) -> usize {
-        match self {
-            PairKind::Enrolment => 6,
-            PairKind::Debit => 11,
+        match self.family() {
+            Family::Enrolment => 6,
+            Family::Debit => 11,
         }
     }
 
     /// The item that holds the result: mark and code.
     pub fn result_item(self) -> usize {
-        match self {
-            PairKind::Enrolment => 12,
-            PairKind::Debit => 8,
+        match self.family() {
+            Family::Enrolment => 12,
+            Family::Debit => 8,
         }
     }
 }

@@ -11,7 +11,7 @@
 //!   [`EvidencePart`], [`DayAnswer`], [`DayBody`];
 //! * [`chars`]: characters, numbers and dates;
 //! * `checked`: one record against its rules, item by item;
-//! * [`layout`]: file kinds, pair kinds, item lengths, table codes;
+//! * [`layout`]: file kinds, pair kinds and their families, item lengths, least amounts, table codes;
 //! * [`read`](mod@read): one file is read;
 //! * [`write`](mod@write): one request file is written;
 //! * [`apart`](mod@apart): one request file is taken apart;

@@ -1,7 +1,7 @@
 //! A request meets its result.  Order: 1, request read, result read, 12, 8,
 //! then the result records in order, 13 before 14; for one outcome, 15 last.
 
-use crate::layout::{PairKind, Record};
+use crate::layout::{Family, PairKind, Record};
 use crate::model::{Answer, Outcome};
 use crate::read::{amount, key, mark, open, Records};
 use std::collections::HashMap;
@@ -53,9 +53,9 @@ pub fn settle(pair: u32, request: &[u8], result: &[u8], places: usize) -> Result
 
 /// Number 12.
 fn compare_headers(pair: PairKind, request: &Records, result: &Records) -> Result<(), Answer> {
-    let items: &[usize] = match pair {
-        PairKind::Enrolment => &[3, 5],
-        PairKind::Debit => &[3, 5, 6, 7],
+    let items: &[usize] = match pair.family() {
+        Family::Enrolment => &[3, 5],
+        Family::Debit => &[3, 5, 6, 7],
     };
     match first_difference(items, &request.header, &result.header) {
         Some(item) => Err(Answer::placed(12, 0, item)),
@@ -80,10 +80,10 @@ fn settle_records(pair: PairKind, request: &Records, result: &Records) -> Result
         if let Some(item) = first_difference(&copied, asked, answered) {
             return Err(refused(13, item));
         }
-        outcomes[place] = match pair {
-            PairKind::Enrolment => enrolment_outcome(answered),
-            PairKind::Debit => {
-                debit_outcome(asked, answered).map_err(|Impossible { item }| refused(14, item))?
+        outcomes[place] = match pair.family() {
+            Family::Enrolment => enrolment_outcome(pair, answered),
+            Family::Debit => {
+                debit_outcome(pair, asked, answered).map_err(|Impossible { item }| refused(14, item))?
             }
         };
     }
@@ -92,9 +92,9 @@ fn settle_records(pair: PairKind, request: &Records, result: &Records) -> Result
 
 /// What one request asks: a debit its amount, an enrolment 1.
 fn won_asked(pair: PairKind, request: &Record) -> u64 {
-    match pair {
-        PairKind::Enrolment => 1,
-        PairKind::Debit => amount(request),
+    match pair.family() {
+        Family::Enrolment => 1,
+        Family::Debit => amount(request),
     }
 }
 
@@ -102,12 +102,12 @@ fn won_asked(pair: PairKind, request: &Record) -> u64 {
 fn copied_items(pair: PairKind, items: usize) -> Vec<usize> {
     (3..=items)
         .filter(|&item| item != pair.result_item())
-        .filter(|&item| !(pair == PairKind::Debit && item == 6))
+        .filter(|&item| !(pair.is_debit() && item == 6))
         .collect()
 }
 
-fn enrolment_outcome(answered: &Record) -> Outcome {
-    Outcome::Refused { won: 1, code: result_code(PairKind::Enrolment, answered) }
+fn enrolment_outcome(pair: PairKind, answered: &Record) -> Outcome {
+    Outcome::Refused { won: 1, code: result_code(pair, answered) }
 }
 
 /// Number 14, at this item.
@@ -115,14 +115,14 @@ struct Impossible {
     item: usize,
 }
 
-fn debit_outcome(asked: &Record, answered: &Record) -> Result<Outcome, Impossible> {
+fn debit_outcome(pair: PairKind, asked: &Record, answered: &Record) -> Result<Outcome, Impossible> {
     let a = amount(asked);
     let u = amount(answered);
-    let code = result_code(PairKind::Debit, answered);
+    let code = result_code(pair, answered);
     if mark(answered) == b'N' {
         return if u == a { Ok(Outcome::Refused { won: a, code }) } else { Err(Impossible { item: 6 }) };
     }
-    let base = base(asked.item(13)).ok_or(Impossible { item: 13 })?;
+    let base = base(pair, asked.item(13)).ok_or(Impossible { item: 13 })?;
     if 0 < u && u < a && a - u >= base {
         Ok(Outcome::Part { taken: a - u, not_taken: u, code })
     } else {
@@ -131,9 +131,9 @@ fn debit_outcome(asked: &Record, answered: &Record) -> Result<Outcome, Impossibl
 }
 
 /// The least that may be taken in part; type "1" is never taken in part.
-fn base(debit_type: &[u8]) -> Option<u64> {
+fn base(pair: PairKind, debit_type: &[u8]) -> Option<u64> {
     match debit_type {
-        b"0" => Some(140),
+        b"0" => Some(pair.least_won()),
         b"2" => Some(1_000),
         b"3" => Some(2_000),
         b"4" => Some(3_000),

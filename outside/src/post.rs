@@ -1,4 +1,4 @@
-//! The posting program: what it prints for the two files of a debit.
+//! The posting program: what it prints for the two files of a next-day debit.
 
 use crate::layout::PairKind;
 use crate::model::{Answer, Maker, Outcome, BLANK_CODE};
@@ -35,7 +35,7 @@ pub fn settle_files(request: &[u8], result: &[u8]) -> Result<Vec<Outcome>, Answe
             return Err(Answer::without_place(3).on_side(side));
         }
     }
-    settle(PairKind::Debit.number(), request, result, usize::MAX)
+    settle(PairKind::NextDay.number(), request, result, usize::MAX)
 }
 
 /// Requests, asked, taken, not taken; then one line for each request.

@@ -6,7 +6,7 @@ use crate::chars::{
     spaces,
 };
 use crate::checked::Checked;
-use crate::layout::{is_centre_code, is_table_code, Kind, PairKind, Record, MOST_RECORDS};
+use crate::layout::{is_centre_code, is_table_code, Family, Kind, PairKind, Record, MOST_RECORDS};
 use crate::model::Answer;
 use std::collections::HashSet;
 
@@ -63,9 +63,9 @@ fn check_items(file: &Records) -> Result<(), Answer> {
     for (before, data) in file.data.iter().enumerate() {
         let record = Checked::new(*data, before + 1);
         check_beginning(&record, &file.header)?;
-        match file.kind.pair() {
-            PairKind::Enrolment => check_enrolment(&record, file.kind, &file.header)?,
-            PairKind::Debit => check_debit(&record, file.kind)?,
+        match file.kind.family() {
+            Family::Enrolment => check_enrolment(&record, file.kind, &file.header)?,
+            Family::Debit => check_debit(&record, file.kind)?,
         }
     }
     let trailer = Checked::new(file.trailer, file.data.len() + 1);
@@ -83,9 +83,9 @@ fn check_header(header: &Checked, kind: Kind) -> Result<(), Answer> {
     header.keeps(5, digits(date), b"0088")?;
     header.keeps(5, real_date(date), b"9998")?;
     header.agrees(5, &date[2..] == name_day)?;
-    match kind.pair() {
-        PairKind::Enrolment => header.spaces(6),
-        PairKind::Debit => {
+    match kind.family() {
+        Family::Enrolment => header.spaces(6),
+        Family::Debit => {
             header.class(6, digits, b"0011")?;
             header.class(7, filled_code_text, b"0098")?;
             header.spaces(8)
@@ -145,7 +145,7 @@ fn check_debit(record: &Checked, kind: Kind) -> Result<(), Answer> {
     let debit_type = record.item(13);
     record.keeps(13, matches!(debit_type, [b'0'..=b'6']), b"0075")?;
     if kind.is_request() {
-        record.keeps(13, amount >= 140 || debit_type == b"1", b"0075")?;
+        record.keeps(13, amount >= kind.pair().least_won() || debit_type == b"1", b"0075")?;
     }
     record.class(14, free_text, b"0088")?;
     record.spaces(15)
@@ -156,7 +156,7 @@ fn enrolment_result(result: &[u8]) -> bool {
     result[0] == b'N' && is_table_code(&result[1..])
 }
 
-/// EB22: "N" and a table code, or "P" and a table code or four spaces.
+/// EB22 and EC22: "N" and a table code, or "P" and a table code or four spaces.
 fn debit_result(result: &[u8]) -> bool {
     let (mark, code) = (result[0], &result[1..]);
     match mark {
@@ -174,26 +174,26 @@ fn check_trailer(trailer: &Checked, kind: Kind, header: &Record) -> Result<(), A
     trailer.as_header(4, header)?;
     trailer.class(5, digits, b"0088")?;
     trailer.class(6, digits, b"0088")?;
-    match kind {
-        Kind::EB13 | Kind::EB14 => {
+    match (kind.family(), kind.is_request()) {
+        (Family::Enrolment, request) => {
             trailer.zero(7)?;
             trailer.class(8, digits, b"0088")?;
             trailer.class(9, digits, b"0088")?;
             trailer.spaces(10)?;
-            if kind.is_request() {
+            if request {
                 trailer.spaces(11)
             } else {
                 trailer.class(11, free_text, b"0088")
             }
         }
-        Kind::EB21 => {
+        (Family::Debit, true) => {
             trailer.class(7, digits, b"0088")?;
             trailer.zero(8)?;
             trailer.zero(9)?;
             trailer.spaces(10)?;
             trailer.spaces(11)
         }
-        Kind::EB22 => {
+        (Family::Debit, false) => {
             trailer.class(7, digits, b"0088")?;
             trailer.class(8, digits, b"0088")?;
             trailer.class(9, digits, b"0088")?;
@@ -220,15 +220,15 @@ fn check_totals(file: &Records) -> Result<(), Answer> {
 /// The counts and sums that the records give: the trailer's item, its value.
 pub fn totals(kind: Kind, data: &[Record]) -> Vec<(usize, u64)> {
     let n = data.len() as u64;
-    match kind {
-        Kind::EB13 | Kind::EB14 => vec![
+    match (kind.family(), kind.is_request()) {
+        (Family::Enrolment, _) => vec![
             (5, n),
             (6, count(data, |record| record.item(5) == b"1")),
             (8, count(data, |record| record.item(5) == b"3")),
             (9, count(data, |record| record.item(5) == b"7")),
         ],
-        Kind::EB21 => vec![(5, n), (6, n), (7, sum(data, |_| true))],
-        Kind::EB22 => vec![
+        (Family::Debit, true) => vec![(5, n), (6, n), (7, sum(data, |_| true))],
+        (Family::Debit, false) => vec![
             (5, n),
             (6, count(data, |record| mark(record) == b'N')),
             (7, sum(data, |record| mark(record) == b'N')),

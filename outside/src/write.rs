@@ -1,7 +1,7 @@
-//! Writing EB13 and EB21.  Order: 1, 2, 3, 8, then as reading the file to be
+//! Writing EB13, EB21 and EC21.  Order: 1, 2, 3, 8, then as reading the file to be
 //! written.
 
-use crate::layout::{Kind, PairKind, Record, MOST_RECORDS};
+use crate::layout::{Family, Kind, Record, MOST_RECORDS};
 use crate::model::Answer;
 use crate::read::{read, totals};
 
@@ -60,9 +60,9 @@ fn file_to_be_written(
 
 /// EB13 takes no items 6 and 7, so there they are of length 0.
 fn as_long_as_their_items(kind: Kind, header: &HeaderParts) -> bool {
-    let (item6, item7) = match kind.pair() {
-        PairKind::Enrolment => (0, 0),
-        PairKind::Debit => (7, 16),
+    let (item6, item7) = match kind.family() {
+        Family::Enrolment => (0, 0),
+        Family::Debit => (7, 16),
     };
     header.date.len() == 6
         && header.code.len() == 10

@@ -37,6 +37,12 @@ ownEB21 = own 0x45423231 140
 abbrev pub ownEB22 : Own
 ownEB22 = own 0x45423232 0
 
+abbrev pub ownEC21 : Own
+ownEC21 = own 0x45433231 300
+
+abbrev pub ownEC22 : Own
+ownEC22 = own 0x45433232 0
+
 -- a form with it
 abbrev pub kind : Form → Own → Kind
 kind form o = record { form = form; own = o }
@@ -53,9 +59,15 @@ EB21 = kind DebitRequest ownEB21
 abbrev pub EB22 : Kind
 EB22 = kind DebitResult ownEB22
 
+abbrev pub EC21 : Kind
+EC21 = kind DebitRequest ownEC21
+
+abbrev pub EC22 : Kind
+EC22 = kind DebitResult ownEC22
+
 -- all kinds
 unfoldable pub kinds : List Kind
-kinds = EB13 ∷ EB14 ∷ EB21 ∷ EB22 ∷ []
+kinds = EB13 ∷ EB14 ∷ EB21 ∷ EB22 ∷ EC21 ∷ EC22 ∷ []
 
 -- records of 120 bytes, bodies of 101; the key is items 5 and 6, reported as item 6; headers agree in items 3 and 5
 abbrev pub enrolment : Bool → Fixed

@@ -13,21 +13,24 @@ use Rattle.kinds.specs.declared.of_pairs.Family.the-variants.{Enrolment,
 use Rattle.kinds.specs.declared.of_pairs.PairKind.{PairKind}
 use Rattle.kinds.specs.declared.of_pairs.PairNamed.{PairNamed}
 use Rattle.kinds.specs.declared.of_pairs.PairNamed.the-variants.{Is, Unknown}
-use Rattle.kinds.specs.Kinds.{own, kind, fixedOf, ownEB13, ownEB14, ownEB21, ownEB22}
+use Rattle.kinds.specs.Kinds.{own, kind, fixedOf, ownEB13, ownEB14, ownEB21, ownEB22, ownEC21, ownEC22}
 
 abbrev pub pairKind : Family → Own → Own → PairKind
 pairKind family request result = record { family = family; request = request; result = result }
 
--- enrolment: EB13 with EB14; debit: EB21 with EB22
+-- enrolment: EB13 with EB14; debit: EB21 with EB22; same-day debit: EC21 with EC22
 abbrev pub enrolmentPair : PairKind
 enrolmentPair = pairKind Enrolment ownEB13 ownEB14
 
 abbrev pub debitPair : PairKind
 debitPair = pairKind Debit ownEB21 ownEB22
 
+abbrev pub sameDayPair : PairKind
+sameDayPair = pairKind Debit ownEC21 ownEC22
+
 -- all pair kinds
 unfoldable pub pairs : List PairKind
-pairs = enrolmentPair ∷ debitPair ∷ []
+pairs = enrolmentPair ∷ debitPair ∷ sameDayPair ∷ []
 
 -- the request and the result of a family, each with what it has of its own
 abbrev pub requestIn : Family → Own → Kind

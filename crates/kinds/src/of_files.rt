@@ -41,6 +41,16 @@ impl Own {
         name: 0x4542_3232,
         least: 0,
     };
+
+    pub const EC21: Own = Own {
+        name: 0x4543_3231,
+        least: 300,
+    };
+
+    pub const EC22: Own = Own {
+        name: 0x4543_3232,
+        least: 0,
+    };
 }
 
 pub struct Kind {
@@ -68,9 +78,26 @@ impl Kind {
         form: Form::DebitResult,
         own: Own::EB22,
     };
+
+    pub const EC21: Kind = Kind {
+        form: Form::DebitRequest,
+        own: Own::EC21,
+    };
+
+    pub const EC22: Kind = Kind {
+        form: Form::DebitResult,
+        own: Own::EC22,
+    };
 }
 
-const KINDS: [Kind; 4] = [Kind::EB13, Kind::EB14, Kind::EB21, Kind::EB22];
+const KINDS: [Kind; 6] = [
+    Kind::EB13,
+    Kind::EB14,
+    Kind::EB21,
+    Kind::EB22,
+    Kind::EC21,
+    Kind::EC22,
+];
 
 // What a number says of a kind.
 pub enum Named {

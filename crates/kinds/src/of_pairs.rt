@@ -29,9 +29,15 @@ impl PairKind {
         request: Own::EB21,
         result: Own::EB22,
     };
+
+    pub const SAME_DAY: PairKind = PairKind {
+        family: Family::Debit,
+        request: Own::EC21,
+        result: Own::EC22,
+    };
 }
 
-const PAIRS: [PairKind; 2] = [PairKind::ENROLMENT, PairKind::DEBIT];
+const PAIRS: [PairKind; 3] = [PairKind::ENROLMENT, PairKind::DEBIT, PairKind::SAME_DAY];
 
 // What a number says of a pair kind.
 pub enum PairNamed {

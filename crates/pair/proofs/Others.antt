@@ -3,14 +3,17 @@
 use Prim.Native.Nat.{ℕ}
 use mathlib.Core.Bool.{Bool}
 use mathlib.Core.List.{List}
-use mathlib.Core.Path.{_≡_, sym, _∙_, ap}
+use mathlib.Core.Path.{_≡_, refl, sym, _∙_, ap}
 use native.Mathlib.Omega.{arith}
+use Rattle.laws.specs.Least.{least, further}
 use Rattle.kinds.specs.declared.of_files.Form.the-variants.{EnrolmentRequest, EnrolmentResult, DebitRequest, DebitResult}
 use Rattle.kinds.specs.declared.of_files.Own.{Own}
 use Rattle.kinds.specs.declared.of_pairs.Family.{Family}
 use Rattle.kinds.specs.declared.of_pairs.Family.the-variants.{Enrolment, Debit}
 use Rattle.kinds.specs.declared.of_pairs.PairKind.{PairKind}
-use Rattle.kinds.specs.Pairs.{requestIn, resultIn, requestKind, resultKind}
+use Rattle.kinds.specs.declared.of_pairs.PairNamed.the-variants.{Is}
+use Rattle.kinds.specs.Kinds.{EB21, EB22, EC21, EC22}
+use Rattle.kinds.specs.Pairs.{debitPair, sameDayPair, pairs, requestIn, resultIn, requestKind, resultKind, pairFrom, requestIs, pairOf}
 use Rattle.answers.specs.declared.told.Answer.{Answer}
 use Rattle.answers.specs.Answers.{accepted, refusedAt}
 use Rattle.answers.proofs.Refusals.{number-of}
@@ -18,7 +21,7 @@ use Rattle.reader.specs.Reading.{readAs}
 use Rattle.reader.specs.Meets.{Meets}
 use Rattle.reader.proofs.Exact.{read-exact}
 use Rattle.reader.proofs.OneKind.{other-name}
-use Rattle.pair.specs.Pairing.{onSide, pairBy}
+use Rattle.pair.specs.Pairing.{onSide, pairBy, pairAs, pairTold}
 use Rattle.pair.proofs.Stages.{by-request, by-result}
 
 -- item 4 of a header disagrees
@@ -49,3 +52,22 @@ module _ (p o : PairKind) (family : o .family ≡ p .family) (q r : List ℕ) (f
   other-result ne good e =
       let told = other-in (p .family) (o .result) (p .result) r ne .1 (rw family at (read-exact (resultKind o) r .0 e)) in
       by-result p q r fits (number-of good) (named-other told) ∙ ap (onSide 2) told
+
+-- the two pair kinds of debits, by their numbers
+next-day : pairOf 0x45423231 ≡ Is debitPair
+unfolding pairOf pairFrom requestIs pairs least further
+next-day = refl
+
+same-day : pairOf 0x45433231 ≡ Is sameDayPair
+unfolding pairOf pairFrom requestIs pairs least further
+same-day = refl
+
+module _ (q r : List ℕ) (taken notTaken : ℕ) where
+  -- *Same day*: a same-day request pairs only with a same-day result, and a next-day request with a next-day result
+  pub same-day-only : readAs EC21 q ≡ accepted → readAs EB22 r ≡ accepted → pairTold 0x45433231 q r taken notTaken ≡ onSide 2 otherName
+  unfolding pairTold pairAs
+  same-day-only good e = rw same-day (other-result sameDayPair debitPair refl q r _ (λ z. omega arith) good e)
+
+  pub next-day-only : readAs EB21 q ≡ accepted → readAs EC22 r ≡ accepted → pairTold 0x45423231 q r taken notTaken ≡ onSide 2 otherName
+  unfolding pairTold pairAs
+  next-day-only good e = rw next-day (other-result debitPair sameDayPair refl q r _ (λ z. omega arith) good e)

@@ -99,7 +99,8 @@ fn too_long(rng: &mut Rng) -> Vec<u8> {
 
 /// A name of no kind that goes in.
 fn rename_kind(rng: &mut Rng, body: &mut NamedBody) {
-    let kinds: [&[u8; 4]; 6] = [b"EI13", b"EB11", b"EB12", b"EC21", b"EC22", b"eb21"];
+    let kinds: [&[u8; 4]; 9] =
+        [b"EI13", b"EB11", b"EB12", b"EB23", b"EC13", b"EC20", b"EC23", b"ED21", b"eb21"];
     let letters = if rng.once_in(2) { *rng.pick(&kinds) } else { unknown_kind(rng).to_be_bytes() };
     body.name[..4].copy_from_slice(&letters);
 }

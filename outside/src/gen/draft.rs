@@ -3,7 +3,7 @@
 use super::items::{body_amount, set_body_amount};
 use super::mending::mend_totals;
 use super::texts::{decimal, spaces};
-use crate::layout::Kind;
+use crate::layout::{Family, Kind};
 
 /// The largest amount of 13 digits.
 pub const LARGEST_AMOUNT: u64 = 9_999_999_999_999;
@@ -19,7 +19,7 @@ pub struct Draft {
     pub item7: Vec<u8>,
     /// Data records without items 1 to 3.
     pub bodies: Vec<Vec<u8>>,
-    /// EB22 trailer item 12.
+    /// Trailer item 12 of a debit's result.
     pub fee: Vec<u8>,
     pub mac: Vec<u8>,
 }
@@ -41,16 +41,16 @@ impl Draft {
         file.extend(b"T99999999");
         file.extend(&self.code);
         file.extend(&name);
-        match self.kind {
-            Kind::EB13 | Kind::EB14 => {
+        match (self.kind.family(), self.kind.is_request()) {
+            (Family::Enrolment, _) => {
                 file.extend([b'0'; 40]);
                 file.extend(spaces(43));
             }
-            Kind::EB21 => {
+            (Family::Debit, true) => {
                 file.extend([b'0'; 50]);
                 file.extend(spaces(63));
             }
-            Kind::EB22 => {
+            (Family::Debit, false) => {
                 file.extend([b'0'; 62]);
                 file.extend(&self.fee);
                 file.extend([b'0'; 11]);
@@ -70,7 +70,7 @@ pub(super) fn fill_sum(draft: &mut Draft, wanted: u64) {
     };
     let others: u64 = others.iter().map(|body| body_amount(body)).sum();
     let rest = wanted.saturating_sub(others);
-    if (140..=LARGEST_AMOUNT).contains(&rest) {
+    if (draft.kind.pair().least_won()..=LARGEST_AMOUNT).contains(&rest) {
         set_body_amount(last, rest);
     }
 }

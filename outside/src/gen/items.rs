@@ -4,12 +4,12 @@ use super::random::Rng;
 use super::texts::{
     code_text, date_in_time, decimal, digits, free_text, passbook_text, spaces, table_code,
 };
-use crate::layout::{Kind, PairKind};
+use crate::layout::{Family, Kind};
 
 /// A good value of a data item, by itself.  Items 1 to 3 are not made here.
 pub(super) fn good_item(rng: &mut Rng, kind: Kind, latest: &[u8], item: usize) -> Vec<u8> {
-    match kind.pair() {
-        PairKind::Enrolment => match item {
+    match kind.family() {
+        Family::Enrolment => match item {
             4 => date_in_time(rng, latest),
             5 => vec![rng.pick(b"137")],
             6 => code_text(rng, 1, 20),
@@ -20,10 +20,10 @@ pub(super) fn good_item(rng: &mut Rng, kind: Kind, latest: &[u8], item: usize) -
             14 => free_text(rng, 12),
             _ => spaces(kind.data()[item - 1]),
         },
-        PairKind::Debit => match item {
+        Family::Debit => match item {
             4 => digits(rng, 7),
             5 => code_text(rng, 1, 16),
-            6 => decimal(rng.between(140, 1_000_000), 13),
+            6 => decimal(rng.between(kind.pair().least_won(), 1_000_000), 13),
             7 => code_text(rng, 0, 13),
             8 => good_result(rng, kind),
             9 => passbook_text(rng, 16),
@@ -38,11 +38,13 @@ pub(super) fn good_item(rng: &mut Rng, kind: Kind, latest: &[u8], item: usize) -
 }
 
 pub(super) fn good_result(rng: &mut Rng, kind: Kind) -> Vec<u8> {
+    if kind.is_request() {
+        return spaces(5);
+    }
     let mut result = vec![b'N'];
-    match kind {
-        Kind::EB13 | Kind::EB21 => return spaces(5),
-        Kind::EB14 => result.extend(table_code(rng)),
-        Kind::EB22 => {
+    match kind.family() {
+        Family::Enrolment => result.extend(table_code(rng)),
+        Family::Debit => {
             result[0] = rng.pick(b"NPP");
             if result[0] == b'P' && rng.once_in(3) {
                 result.extend(b"    ");

@@ -6,7 +6,7 @@ use super::other_texts::{other_number, other_text, DataItem};
 use super::places::{is_whole, item_lengths, item_place, raw_records, some_record};
 use super::random::Rng;
 use super::texts::{date, decimal, digits, no_date};
-use crate::layout::{Kind, PairKind};
+use crate::layout::Kind;
 
 /// One byte anywhere.
 pub(super) fn change_byte(rng: &mut Rng, kind: Kind, file: &mut [u8]) {
@@ -86,7 +86,7 @@ pub(super) fn change_total(rng: &mut Rng, kind: Kind, file: &mut [u8]) {
         return;
     }
     let last = raw_records(kind, file) - 1;
-    let most = if kind == Kind::EB22 { 12 } else { 9 };
+    let most = if kind.is_debit() && !kind.is_request() { 12 } else { 9 };
     let item = rng.between(5, most) as usize;
     let place = item_place(kind, file, last, item);
     let text = other_number(rng, &file[place.clone()]);
@@ -119,7 +119,7 @@ pub(super) fn copy_key(rng: &mut Rng, kind: Kind, file: &mut [u8]) {
 /// Amounts whose sum has more than 13 digits, with what fits as the total.
 pub(super) fn overflow_sum(rng: &mut Rng, kind: Kind, file: &mut [u8]) {
     let count = raw_records(kind, file);
-    if kind.pair() != PairKind::Debit || !is_whole(kind, file) {
+    if !kind.is_debit() || !is_whole(kind, file) {
         return;
     }
     let exactly = rng.once_in(2);
@@ -128,7 +128,7 @@ pub(super) fn overflow_sum(rng: &mut Rng, kind: Kind, file: &mut [u8]) {
         let amount = if exactly {
             5_000_000_000_000
         } else {
-            rng.pick(&[LARGEST_AMOUNT, LARGEST_AMOUNT, 1_000_000, 140])
+            rng.pick(&[LARGEST_AMOUNT, LARGEST_AMOUNT, 1_000_000, kind.pair().least_won()])
         };
         file[start..start + 13].copy_from_slice(&decimal(amount, 13));
     }

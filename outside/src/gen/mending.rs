@@ -3,7 +3,7 @@
 use super::items::body_amount;
 use super::places::{is_whole, raw_records};
 use super::texts::decimal;
-use crate::layout::{is_centre_code, Kind};
+use crate::layout::{is_centre_code, Family, Kind};
 
 /// Puts the counts and sums into the trailer that the data records give.
 pub fn mend_totals(kind: Kind, file: &mut [u8]) {
@@ -22,12 +22,12 @@ pub fn mend_totals(kind: Kind, file: &mut [u8]) {
             .map(|r| body_amount(&r[19..]))
             .sum()
     };
-    let totals = match kind {
-        Kind::EB13 | Kind::EB14 => {
+    let totals = match (kind.family(), kind.is_request()) {
+        (Family::Enrolment, _) => {
             vec![(27, 8, n), (35, 8, count(25, b'1')), (51, 8, count(25, b'3')), (59, 8, count(25, b'7'))]
         }
-        Kind::EB21 => vec![(27, 8, n), (35, 8, n), (43, 13, sum(None))],
-        Kind::EB22 => vec![
+        (Family::Debit, true) => vec![(27, 8, n), (35, 8, n), (43, 13, sum(None))],
+        (Family::Debit, false) => vec![
             (27, 8, n),
             (35, 8, count(68, b'N')),
             (43, 13, sum(Some(b'N'))),

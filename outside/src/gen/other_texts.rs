@@ -5,7 +5,7 @@ use super::random::{Rng, SPECIAL_BYTES};
 use super::texts::{
     code_text, date, decimal, digits, free_text, no_date, passbook_text, spaces, table_code, CODE,
 };
-use crate::layout::{Kind, PairKind};
+use crate::layout::{Family, Kind};
 
 /// An item of a data record, and the header's date.
 #[derive(Clone, Copy)]
@@ -91,17 +91,18 @@ fn text_for_item(rng: &mut Rng, kind: Kind, data_item: DataItem) -> Option<Vec<u
     if item == kind.pair().result_item() && rng.once_in(2) {
         return Some(some_result(rng));
     }
-    let text = match (kind.pair(), item) {
-        (PairKind::Enrolment, 4) if rng.once_in(3) => no_date(rng),
-        (PairKind::Enrolment, 4) if rng.once_in(3) => date(rng),
-        (PairKind::Enrolment, 4) if rng.once_in(2) => near_date(rng, latest),
-        (PairKind::Enrolment, 5) if rng.once_in(2) => vec![rng.pick(b"0123456789")],
-        (PairKind::Enrolment, 9) if rng.once_in(3) => spaces(16),
-        (PairKind::Debit, 6) if rng.once_in(2) => {
-            let amount = rng.pick(&[0, 0, 0, 1, 138, 139, 139, 140, 141, LARGEST_AMOUNT]);
-            decimal(amount, 13)
+    let text = match (kind.family(), item) {
+        (Family::Enrolment, 4) if rng.once_in(3) => no_date(rng),
+        (Family::Enrolment, 4) if rng.once_in(3) => date(rng),
+        (Family::Enrolment, 4) if rng.once_in(2) => near_date(rng, latest),
+        (Family::Enrolment, 5) if rng.once_in(2) => vec![rng.pick(b"0123456789")],
+        (Family::Enrolment, 9) if rng.once_in(3) => spaces(16),
+        (Family::Debit, 6) if rng.once_in(2) => {
+            let least = kind.pair().least_won();
+            let amounts = [0, 0, 0, 1, 139, 140, least - 1, least - 1, least, least + 1, LARGEST_AMOUNT];
+            decimal(rng.pick(&amounts), 13)
         }
-        (PairKind::Debit, 13) if rng.once_in(2) => vec![rng.pick(b"01234567/ ")],
+        (Family::Debit, 13) if rng.once_in(2) => vec![rng.pick(b"01234567/ ")],
         _ => return None,
     };
     Some(text)

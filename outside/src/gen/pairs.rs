@@ -23,13 +23,20 @@ pub fn any_pair(rng: &mut Rng) -> (u32, Vec<u8>, Vec<u8>) {
         5 => result = vec![],
         6 => std::mem::swap(&mut request, &mut result),
         7 => result = good_draft(rng, pair.result()).file(),
-        8 => request = file_of(rng, Kind::EB13),
-        9 => result = file_of(rng, Kind::EB14),
+        8 => {
+            let kind = rng.pick(&Kind::ALL);
+            request = file_of(rng, kind);
+        }
+        9 => {
+            let kind = rng.pick(&Kind::ALL);
+            result = file_of(rng, kind);
+        }
         _ => {}
     }
     let number = match rng.below(100) {
         0 => unknown_kind(rng),
-        1 => rng.pick(&[pair.result().number(), Kind::EB14.number(), Kind::EB22.number()]),
+        1 => rng.pick(&PairKind::ALL).result().number(),
+        2 => rng.pick(&PairKind::ALL).number(),
         _ => pair.number(),
     };
     (number, request, result)
@@ -37,11 +44,11 @@ pub fn any_pair(rng: &mut Rng) -> (u32, Vec<u8>, Vec<u8>) {
 
 /// A request, its result, and mostly something wrong with one of them.
 fn any_two_files(rng: &mut Rng, pair: PairKind) -> (Vec<u8>, Vec<u8>) {
-    let request = good_request(rng, pair.request());
+    let mut request = good_request(rng, pair.request());
     let fair = rng.once_in(2);
     let mut result = result_of(rng, &request, fair);
     let mut spoiled = (false, false);
-    match rng.below(24) {
+    match rng.below(26) {
         0..=3 => {}
         4 | 5 => differ_in_header(rng, &mut result),
         6..=8 => differ_in_record(rng, &request, &mut result),
@@ -52,7 +59,9 @@ fn any_two_files(rng: &mut Rng, pair: PairKind) -> (Vec<u8>, Vec<u8>) {
         }
         11..=15 => spoiled.0 = true,
         16..=22 => spoiled.1 = true,
-        _ => spoiled = (true, true),
+        23 => spoiled = (true, true),
+        24 => request.kind = of_the_other_day(request.kind),
+        _ => result.kind = of_the_other_day(result.kind),
     }
     let (mut request_file, mut result_file) = (request.file(), result.file());
     if spoiled.0 {
@@ -62,6 +71,20 @@ fn any_two_files(rng: &mut Rng, pair: PairKind) -> (Vec<u8>, Vec<u8>) {
         spoil(rng, pair.result(), &mut result_file);
     }
     (request_file, result_file)
+}
+
+/// A same-day debit for a next-day one, and the other way round.
+fn of_the_other_day(kind: Kind) -> Kind {
+    let other = match kind.pair() {
+        PairKind::Enrolment => PairKind::Enrolment,
+        PairKind::NextDay => PairKind::SameDay,
+        PairKind::SameDay => PairKind::NextDay,
+    };
+    if kind.is_request() {
+        other.request()
+    } else {
+        other.result()
+    }
 }
 
 /// A result of another institution, day, bank or account.
@@ -111,10 +134,10 @@ fn differ_in_record(rng: &mut Rng, request: &Draft, result: &mut Draft) {
 fn another_record(rng: &mut Rng, request: &Draft, result: &mut Draft) {
     let mut stranger = if !request.bodies.is_empty() && rng.once_in(2) {
         rng.pick(&request.bodies)
-    } else if request.kind == Kind::EB21 {
-        debit_body(rng, Kind::EB21, request.bodies.len().max(1))
+    } else if request.kind.is_debit() {
+        debit_body(rng, request.kind, request.bodies.len().max(1))
     } else {
-        enrolment_body(rng, Kind::EB13, &request.date)
+        enrolment_body(rng, request.kind, &request.date)
     };
     let place = body_item(result.kind, result.kind.pair().result_item());
     let marked = good_result(rng, result.kind);

@@ -15,7 +15,7 @@ pub fn good_request(rng: &mut Rng, kind: Kind) -> Draft {
 
 /// A good request file of n data records.
 pub fn request_of(rng: &mut Rng, kind: Kind, n: usize) -> Draft {
-    let debit = kind.pair() == PairKind::Debit;
+    let debit = kind.is_debit();
     let mut draft = Draft {
         kind,
         code: [b"99".to_vec(), digits(rng, 8)].concat(),
@@ -61,22 +61,23 @@ pub(super) fn enrolment_body(rng: &mut Rng, kind: Kind, latest: &[u8]) -> Vec<u8
 pub(super) fn debit_body(rng: &mut Rng, kind: Kind, n: usize) -> Vec<u8> {
     let mut items: Vec<Vec<u8>> = (4..=15).map(|item| good_item(rng, kind, b"", item)).collect();
     let debit_type = items[9][0];
-    let base = base(debit_type);
+    let (base, least_won) = (base(kind.pair(), debit_type), kind.pair().least_won());
     let cap = LARGEST_AMOUNT / n.max(1) as u64;
-    let least = if debit_type == b'1' { 1 } else { 140 };
+    let least = if debit_type == b'1' { 1 } else { least_won };
     let amount = match rng.below(20) {
         0 => least,
-        1 => 139,
-        2 => 140,
-        3 => 141,
+        1 => least_won - 1,
+        2 => least_won + 1,
+        // About the least of each sort of debit, whichever this one is.
+        3 => rng.pick(&[139, 140, 141, 299, 300, 301]),
         4 => base,
         5 => base + 1,
         6 => base.saturating_sub(1),
-        7 => base + 140,
+        7 => base + least_won,
         8 => 2 * base,
         9 => cap,
         10 => rng.between(least, cap),
-        11 => rng.between(140, 6_000),
+        11 => rng.between(least_won, 6_000),
         _ => rng.between(1, 500) * 1_000,
     };
     items[2] = decimal(amount.clamp(least, cap), 13);
@@ -84,9 +85,9 @@ pub(super) fn debit_body(rng: &mut Rng, kind: Kind, n: usize) -> Vec<u8> {
 }
 
 /// The least that may be taken in part (type "1": never, so any number does).
-pub(super) fn base(debit_type: u8) -> u64 {
+pub(super) fn base(pair: PairKind, debit_type: u8) -> u64 {
     match debit_type {
-        b'0' => 140,
+        b'0' => pair.least_won(),
         b'1' => 1,
         other => (u64::from(other) - u64::from(b'1')) * 1_000,
     }
@@ -102,7 +103,7 @@ fn add_with_new_key(rng: &mut Rng, draft: &mut Draft, keys: &mut HashSet<Vec<u8>
         copy_body_item(draft.kind, &neighbour, &mut body, half);
     }
     let [first, second] = draft.kind.pair().key().map(|item| body_item(draft.kind, item));
-    if draft.kind.pair() == PairKind::Enrolment && body[first.clone()] != *b"3" {
+    if !draft.kind.is_debit() && body[first.clone()] != *b"3" {
         // A kind that came from a neighbour may forbid a blank item 9.
         let birth = body_item(draft.kind, 9);
         if body[birth.clone()].iter().all(|&b| b == b' ') {

@@ -5,7 +5,7 @@ use super::items::{body_amount, body_item, good_result, set_body_amount};
 use super::random::Rng;
 use super::requests::{base, good_request};
 use super::texts::free_text;
-use crate::layout::Kind;
+use crate::layout::{Kind, PairKind};
 
 /// A result for a request: some of its records in another order, answered.
 /// A fair one has only possible amounts.
@@ -18,9 +18,9 @@ pub fn result_of(rng: &mut Rng, request: &Draft, fair: bool) -> Draft {
         let place = body_item(result.kind, result.kind.pair().result_item());
         let marked = good_result(rng, result.kind);
         body[place].copy_from_slice(&marked);
-        if result.kind == Kind::EB22 {
+        if result.kind.is_debit() {
             let fair = fair || rng.once_in(2);
-            answer_amount(rng, body, fair);
+            answer_amount(rng, result.kind.pair(), body, fair);
         }
     }
     result
@@ -36,11 +36,11 @@ fn some_of(rng: &mut Rng, list: &[Vec<u8>]) -> Vec<Vec<u8>> {
     part
 }
 
-/// Puts the amount not taken into an EB22 body that still has the amount asked.
-fn answer_amount(rng: &mut Rng, body: &mut [u8], fair: bool) {
+/// Puts the amount not taken into the body of a debit's result that still has the amount asked.
+fn answer_amount(rng: &mut Rng, pair: PairKind, body: &mut [u8], fair: bool) {
     let asked = body_amount(body);
     let debit_type = body[97];
-    let base = base(debit_type);
+    let base = base(pair, debit_type);
     let most = asked.saturating_sub(base);
     if fair {
         if debit_type == b'1' || most == 0 {
@@ -69,7 +69,7 @@ fn answer_amount(rng: &mut Rng, body: &mut [u8], fair: bool) {
         7 => base,
         8 => base - 1,
         9 => asked / 2,
-        10 => 140,
+        10 => pair.least_won(),
         _ => rng.between(1, asked),
     };
     let least = if rng.once_in(10) { 0 } else { 1 };

@@ -8,7 +8,7 @@ use super::other_texts::{other_text, DataItem};
 use super::random::Rng;
 use super::requests::good_request;
 use super::texts::{date, no_date};
-use crate::layout::{Kind, MOST_RECORDS};
+use crate::layout::{Kind, PairKind, MOST_RECORDS};
 
 /// What the writer is given; the room holds bytes that must not change when
 /// it refuses.
@@ -24,7 +24,7 @@ pub struct WriteInput {
 }
 
 pub fn any_write(rng: &mut Rng) -> WriteInput {
-    let kind = rng.pick(&[Kind::EB13, Kind::EB21]);
+    let kind = rng.pick(&PairKind::ALL).request();
     let mut draft = good_request(rng, kind);
     match rng.below(12) {
         0..=2 => {}
@@ -114,7 +114,7 @@ fn copy_body_key(rng: &mut Rng, draft: &mut Draft) {
 
 /// Amounts whose sum is just within 13 digits, just over, or far over.
 fn overflow_bodies(rng: &mut Rng, draft: &mut Draft) {
-    if draft.kind != Kind::EB21 {
+    if !draft.kind.is_debit() {
         return;
     }
     let way = rng.below(4);

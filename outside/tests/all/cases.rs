@@ -1,8 +1,8 @@
-//! What the lists of edge cases share: their columns, how bytes are written in them, and files of the four kinds.
+//! What the lists of edge cases share: their columns, how bytes are written in them, and files of every kind.
 
 use super::common::put;
 use outside::gen::Draft;
-use outside::layout::{Kind, PairKind};
+use outside::layout::Kind;
 use outside::model::code_number;
 
 /// Bytes that no file has where it is filled.
@@ -80,11 +80,11 @@ fn numbered(word: &str, n: u64) -> String {
     word.replacen('#', &format!("{n:0width$}"), 1).replace('#', "")
 }
 
-// ----------------------------------------------------- files of the four kinds
+// ------------------------------------------------------- files of every kind
 
 /// A file of one institution; trailer items that are only digits are zero.
 pub fn draft(kind: Kind, date: &str, bodies: Vec<Vec<u8>>) -> Draft {
-    let debit = kind.pair() == PairKind::Debit;
+    let debit = kind.is_debit();
     Draft {
         kind,
         code: b"9912345678".to_vec(),
@@ -114,7 +114,7 @@ pub fn enrolment(kind: &str, payer: &str, result: &str) -> Vec<u8> {
     items.concat()
 }
 
-/// A debit of 10,000 won, type 0, by its payer and, in an EB22, its result.
+/// A debit of 10,000 won, type 0, by its payer and, in an EB22 or EC22, its result.
 pub fn debit(payer: &str, result: &str) -> Vec<u8> {
     let items = [
         b"0880000".to_vec(),

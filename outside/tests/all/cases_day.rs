@@ -5,7 +5,7 @@ use super::cases::{
     UNWRITTEN,
 };
 use outside::gen::{DayDraft, DayWriteInput, NamedBody};
-use outside::layout::Kind;
+use outside::layout::{Family, Kind};
 
 /// One line of the list.
 pub struct Case {
@@ -114,11 +114,10 @@ fn file_of(name: &str, records: u64) -> Vec<u8> {
     let (letters, day) = name.split_at(4);
     let kind = Kind::ALL.into_iter().find(|kind| kind.letters() == letters.as_bytes());
     let kind = kind.unwrap_or_else(|| panic!("no kind: {name}"));
-    let body = |payer: String| match kind {
-        Kind::EB13 => enrolment("1", &payer, ""),
-        Kind::EB14 => enrolment("1", &payer, "N0021"),
-        Kind::EB21 => debit(&payer, ""),
-        Kind::EB22 => debit(&payer, "N0021"),
+    let result = if kind.is_request() { "" } else { "N0021" };
+    let body = |payer: String| match kind.family() {
+        Family::Enrolment => enrolment("1", &payer, result),
+        Family::Debit => debit(&payer, result),
     };
     let bodies = (1..=records).map(|n| body(format!("P{n}"))).collect();
     draft(kind, &format!("24{day}"), bodies).file()

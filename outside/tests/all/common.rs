@@ -6,7 +6,7 @@ use outside::day::layout::{kind_said, MOST_BODIES};
 use outside::evidence::layout::Profile;
 use outside::gen::{self, DayDraft, EvidenceDraft, NamedBody, Rng};
 use outside::layout::{Kind, MOST_RECORDS};
-use outside::DayAnswer;
+use outside::{Answer, DayAnswer};
 use std::collections::HashSet;
 use std::fmt::Display;
 use std::hash::{DefaultHasher, Hash, Hasher};
@@ -150,15 +150,16 @@ pub fn named(mut file: Vec<u8>, day: &str) -> NamedBody {
     NamedBody { name: file[19..27].to_vec(), file }
 }
 
-/// A good day file of the four kinds, of one day and with so many data records each.
-pub fn four_kinds(rng: &mut Rng, n: usize) -> DayDraft {
+/// A good day file of all kinds, of one day and with so many data records each.
+pub fn all_kinds(rng: &mut Rng, n: usize) -> DayDraft {
     let bodies = Kind::ALL.map(|kind| named(good_file(rng, kind, n), "1231"));
     DayDraft { bodies: bodies.to_vec() }
 }
 
 /// The largest good day file: debits, all of as many records as there may be.
 pub fn largest_day(rng: &mut Rng) -> DayDraft {
-    let kinds = [Kind::EB21, Kind::EB22].into_iter().cycle().take(MOST_BODIES);
+    let debits = [Kind::EB21, Kind::EB22, Kind::EC21, Kind::EC22];
+    let kinds = debits.into_iter().cycle().take(MOST_BODIES);
     let days = (1..).map(|day| format!("12{day:02}"));
     let bodies = kinds.zip(days).map(|(kind, day)| named(good_file(rng, kind, MOST_RECORDS), &day));
     DayDraft { bodies: bodies.collect() }
@@ -201,4 +202,16 @@ pub fn other_texts(item: &[u8]) -> [Vec<u8>; 5] {
     let last = more.len() - 1;
     more[last] = if more[last] == b'9' { b'0' } else { more[last].wrapping_add(1) };
     [vec![b' '; item.len()], vec![b'0'; item.len()], vec![b'Z'; item.len()], strange, more]
+}
+
+/// What a file of one debit is told that is good but for its amount and its type: an amount is not zero, and is at least
+/// the least of its kind, which a result has not, unless the type is "1".
+pub fn small_told(least: u64, amount: u64, debit_type: u8) -> Answer {
+    if amount == 0 {
+        Answer::broken(1, 6, b"0061")
+    } else if debit_type == b'7' || amount < least && debit_type != b'1' {
+        Answer::broken(1, 13, b"0075")
+    } else {
+        Answer::accepted()
+    }
 }

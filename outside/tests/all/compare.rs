@@ -2,13 +2,11 @@
 //!
 //! `OUTSIDE_SEED` and `OUTSIDE_COUNT` choose the generated files.
 
-use super::common::{check_coverage, good_file, keep, other_texts, proved_shown, put, shown};
+use super::common::{check_coverage, good_file, keep, other_texts, proved_shown, put, shown, small_told};
 use outside::bridge::{ask, Call, Queue, Said};
 use outside::coverage::{Counter, Operation};
 use outside::gen::{self, Rng};
-use outside::layout::{
-    is_centre_code, table_codes, Kind, PairKind, BANK_CODES, CENTRE_CODES, MOST_RECORDS,
-};
+use outside::layout::{is_centre_code, table_codes, Family, Kind, BANK_CODES, CENTRE_CODES, MOST_RECORDS};
 use outside::shrink::shrink;
 use outside::{read, settings, write, Answer};
 
@@ -147,7 +145,7 @@ fn same_records(rng: &mut Rng, kind: Kind, n: usize) -> Vec<u8> {
 
 /// Serials and totals put right, with amounts whose sum fits its item whatever was repeated.
 fn mend(kind: Kind, file: &mut [u8]) {
-    if kind.pair() == PairKind::Debit {
+    if kind.is_debit() {
         let last = file.len() / kind.record_length() - 1;
         for record in 1..last {
             put(file, record * kind.record_length() + DEBIT_AMOUNT, b"0000000001000");
@@ -213,7 +211,7 @@ fn every_pattern_of_keys() {
         for pattern in 0..8_usize.pow(5) {
             for record in 0..5 {
                 let start = (record + 1) * kind.record_length();
-                put_key(kind.pair(), &mut file[start..], pattern >> (3 * record) & 7);
+                put_key(kind.family(), &mut file[start..], pattern >> (3 * record) & 7);
             }
             gen::mend_totals(kind, &mut file);
             assert!([0, 7].contains(&compare(&mut both, kind.number(), &file).number));
@@ -222,16 +220,16 @@ fn every_pattern_of_keys() {
 }
 
 /// One of eight keys.
-fn put_key(pair: PairKind, record: &mut [u8], choice: usize) {
+fn put_key(family: Family, record: &mut [u8], choice: usize) {
     let (payer, other) = (format!("{:<20}", choice % 4), choice / 4);
-    match pair {
-        PairKind::Enrolment => {
+    match family {
+        Family::Enrolment => {
             put(record, ENROLMENT_PAYER, payer.as_bytes());
             put(record, ENROLMENT_KIND, &[b"17"[other]]);
             // These kinds want it filled.
             put(record, ENROLMENT_BIRTH, b"8");
         }
-        PairKind::Debit => {
+        Family::Debit => {
             put(record, DEBIT_PAYER, payer.as_bytes());
             put(record, DEBIT_USE, [b"     ", b"    2"][other]);
         }
@@ -318,8 +316,11 @@ fn every_enrolment_date() {
 fn every_code_of_a_result() {
     let (mut both, mut rng) = (both(), Rng::new(settings::seed()));
     let letters = b"0123456789ABZ@a ";
-    for (kind, start, marks) in [(Kind::EB14, ENROLMENT_RESULT, b"NPn"), (Kind::EB22, DEBIT_RESULT, b"NPp")]
-    {
+    for (kind, start, marks) in [
+        (Kind::EB14, ENROLMENT_RESULT, b"NPn"),
+        (Kind::EB22, DEBIT_RESULT, b"NPp"),
+        (Kind::EC22, DEBIT_RESULT, b"NPp"),
+    ] {
         let mut file = good_file(&mut rng, kind, 1);
         for &mark in marks {
             for code in 0..16_usize.pow(4) {
@@ -332,52 +333,58 @@ fn every_code_of_a_result() {
     }
 }
 
+const DEBIT_RESULTS: [Kind; 2] = [Kind::EB22, Kind::EC22];
+
 /// Up to four results, each marked "N" or "P" with some code of a bank or of the centre, or "P" alone: item 10 counts the
 /// "N" records with a code of the centre, whatever stands beside them.
 #[test]
 fn every_mix_of_marks_and_makers() {
     let (mut both, mut rng) = (both(), Rng::new(settings::seed()));
-    let mut counts = [0; 5];
-    for n in 0..=4 {
-        let mut file = good_file(&mut rng, Kind::EB22, n);
-        for mix in 0..5_usize.pow(n as u32) {
-            let choices = (0..n).map(|record| mix / 5_usize.pow(record as u32) % 5);
-            let results: Vec<Vec<u8>> = choices.map(|choice| some_result(&mut rng, choice)).collect();
-            counts[item_10(&mut both, &mut file, &results)] += 1;
+    for kind in DEBIT_RESULTS {
+        let mut counts = [0; 5];
+        for n in 0..=4 {
+            let mut file = good_file(&mut rng, kind, n);
+            for mix in 0..5_usize.pow(n as u32) {
+                let choices = (0..n).map(|record| mix / 5_usize.pow(record as u32) % 5);
+                let results: Vec<Vec<u8>> = choices.map(|choice| some_result(&mut rng, choice)).collect();
+                counts[item_10(&mut both, kind, &mut file, &results)] += 1;
+            }
         }
+        // Of n records k are such ones in n over k ways, and each other is one of four.
+        assert_eq!(counts, [1 + 4 + 16 + 64 + 256, 1 + 8 + 48 + 256, 1 + 12 + 96, 1 + 16, 1]);
     }
-    // Of n records k are such ones in n over k ways, and each other is one of four.
-    assert_eq!(counts, [1 + 4 + 16 + 64 + 256, 1 + 8 + 48 + 256, 1 + 12 + 96, 1 + 16, 1]);
 }
 
 /// The same for every code by itself.
 #[test]
 fn every_code_and_item_10() {
     let (mut both, mut rng) = (both(), Rng::new(settings::seed()));
-    let mut file = good_file(&mut rng, Kind::EB22, 1);
-    let mut counts = [0; 2];
-    for code in table_codes() {
-        for mark in [b"N", b"P"] {
-            counts[item_10(&mut both, &mut file, &[[mark, code].concat()])] += 1;
+    for kind in DEBIT_RESULTS {
+        let mut file = good_file(&mut rng, kind, 1);
+        let mut counts = [0; 2];
+        for code in table_codes() {
+            for mark in [b"N", b"P"] {
+                counts[item_10(&mut both, kind, &mut file, &[[mark, code].concat()])] += 1;
+            }
         }
+        assert_eq!(counts, [2 * 25 + 23, 23]);
     }
-    assert_eq!(counts, [2 * 25 + 23, 23]);
 }
 
 /// Reads a file with these results and each number about the right one in item 10, also one more in each digit; tells the
 /// right one.
-fn item_10(both: &mut Both, file: &mut [u8], results: &[Vec<u8>]) -> usize {
+fn item_10(both: &mut Both, kind: Kind, file: &mut [u8], results: &[Vec<u8>]) -> usize {
     for (before, result) in results.iter().enumerate() {
         put(file, (before + 1) * 150 + DEBIT_RESULT, result);
     }
-    mend(Kind::EB22, file);
+    mend(kind, file);
     let count = results.iter().filter(|told| told[0] == b'N' && is_centre_code(&told[1..])).count();
     let about = [count, count.saturating_sub(1), 0, results.len(), 99_999_999];
     for number in about.into_iter().chain((0..8).map(|digit| count + 10_usize.pow(digit))) {
         put(file, (results.len() + 1) * 150 + CENTRE_COUNT, format!("{number:08}").as_bytes());
         let wrong = Answer::placed(6, results.len() + 1, 10);
         let expected = if number == count { Answer::accepted() } else { wrong };
-        assert_eq!(compare(both, Kind::EB22.number(), file), expected, "{number} of {results:?}");
+        assert_eq!(compare(both, kind.number(), file), expected, "{number} of {results:?}");
     }
     count
 }
@@ -392,17 +399,22 @@ fn some_result(rng: &mut Rng, choice: usize) -> Vec<u8> {
     [&mark[..], code].concat()
 }
 
+/// The least that a request may ask, unless its type is "1"; a result has none.
+const LEASTS: [(Kind, u64); 4] = [(Kind::EB21, 140), (Kind::EB22, 0), (Kind::EC21, 300), (Kind::EC22, 0)];
+
 #[test]
 fn small_amounts_of_every_type() {
     let (mut both, mut rng) = (both(), Rng::new(settings::seed()));
-    for kind in [Kind::EB21, Kind::EB22] {
+    for (kind, least) in LEASTS {
         let mut file = good_file(&mut rng, kind, 1);
         for amount in 0..6_000 {
             for debit_type in b'0'..=b'7' {
                 put(&mut file, kind.record_length() + DEBIT_AMOUNT, format!("{amount:013}").as_bytes());
                 put(&mut file, kind.record_length() + DEBIT_TYPE, &[debit_type]);
                 gen::mend_totals(kind, &mut file);
-                compare(&mut both, kind.number(), &file);
+                let expected = small_told(least, amount, debit_type);
+                let told = compare(&mut both, kind.number(), &file);
+                assert_eq!(told, expected, "{kind:?}, {amount} won, type {}", debit_type as char);
             }
         }
     }

@@ -6,7 +6,7 @@ use super::common::{check_coverage, good_file, keep, proved_shown_with_room, sho
 use outside::bridge::{ask, Call, Queue, Said};
 use outside::coverage::{Counter, Operation};
 use outside::gen::{self, Rng};
-use outside::layout::{Kind, MOST_RECORDS};
+use outside::layout::{Family, Kind, MOST_RECORDS};
 use outside::proved::{self, Parts};
 use outside::shrink::shrink;
 use outside::{apart, read, settings, six, Answer};
@@ -93,7 +93,7 @@ fn mostly_request(rng: &mut Rng) -> (u32, Vec<u8>) {
     }
 }
 
-const REQUESTS: [Kind; 2] = [Kind::EB13, Kind::EB21];
+const REQUESTS: [Kind; 3] = [Kind::EB13, Kind::EB21, Kind::EC21];
 
 /// Every number of data records, and lengths of memory about the one that is needed: all of them where records are few.
 #[test]
@@ -171,9 +171,9 @@ fn a_file_that_is_taken_apart_is_written_again() {
             let mut bodies = unwritten(n * kind.body_length());
             let told = proved::apart(kind.number(), &file, &mut bodies);
             assert_eq!((told[1], told[5]), (0, bodies.len() as u64));
-            let (item6, item7) = match kind {
-                Kind::EB21 => (&file[33..=39], &file[40..=55]),
-                _ => (&file[..0], &file[..0]),
+            let (item6, item7) = match kind.family() {
+                Family::Debit => (&file[33..=39], &file[40..=55]),
+                Family::Enrolment => (&file[..0], &file[..0]),
             };
             let parts = Parts { date: &file[27..=32], code: &file[9..=18], item6, item7, bodies: &bodies };
             let mut room = unwritten(file.len());

@@ -3,15 +3,15 @@
 //! `OUTSIDE_SEED` and `OUTSIDE_COUNT` choose the generated files.
 
 use super::common::{
-    check_coverage, day_shown, four_kinds, good_file, keep, largest_day, other_texts, proved_day_shown,
-    put, refused_in,
+    all_kinds, check_coverage, day_shown, good_file, keep, largest_day, other_texts, proved_day_shown, put,
+    refused_in,
 };
 use outside::bridge::{ask, Call, Queue, Said};
 use outside::coverage::Counter;
 use outside::coverage_day::DayOperation;
 use outside::day::layout::{bodies_start, ENTRY_LENGTH, MOST_BODIES};
 use outside::gen::{self, DayDraft, NamedBody, Rng};
-use outside::layout::{Kind, PairKind, MOST_RECORDS};
+use outside::layout::{Kind, MOST_RECORDS};
 use outside::shrink::shrink_day;
 use outside::{day_body, day_read, eight_of_day, read, settings, ten_of_body, Answer, DayAnswer};
 
@@ -143,18 +143,17 @@ fn generated_files_have_the_same_bodies() {
 #[test]
 fn every_byte_at_every_place() {
     let (mut both, mut rng) = (both(), Rng::new(settings::seed()));
-    let day = four_kinds(&mut rng, 1);
-    let good = day.file();
+    let day = all_kinds(&mut rng, 1);
+    let (good, start) = (day.file(), bodies_start(6));
     for place in 0..good.len() {
-        let all: Vec<u8> =
-            if place < bodies_start(4) { (0..=255).collect() } else { b"\0 0AN\xff".to_vec() };
+        let all: Vec<u8> = if place < start { (0..=255).collect() } else { b"\0 0AN\xff".to_vec() };
         for byte in all {
             let mut file = good.clone();
             file[place] = byte;
             let (told, n) = compare_reading(&mut both, &file);
             let same = byte == good[place];
-            assert!(place >= bodies_start(4) || told.is_accepted() == same);
-            assert_eq!(n, if told.is_accepted() { 4 } else { 0 });
+            assert!(place >= start || told.is_accepted() == same);
+            assert_eq!(n, if told.is_accepted() { 6 } else { 0 });
         }
     }
 }
@@ -163,7 +162,7 @@ fn every_byte_at_every_place() {
 #[test]
 fn every_two_faults() {
     let (mut both, mut rng) = (both(), Rng::new(settings::seed()));
-    let good = four_kinds(&mut rng, 1).file();
+    let good = all_kinds(&mut rng, 1).file();
     let faults = faults(&good);
     let mut numbers = [0; 34];
     for (before, one) in faults.iter().enumerate() {
@@ -180,7 +179,7 @@ fn every_two_faults() {
 /// Form, count, every name and length spoiled in some ways, and the first bytes of every body: where, and the new text.
 fn faults(file: &[u8]) -> Vec<(usize, Vec<u8>)> {
     let mut faults =
-        vec![(0, b"2".to_vec()), (1, b"03".to_vec()), (1, b"05".to_vec()), (1, b"17".to_vec())];
+        vec![(0, b"2".to_vec()), (1, b"05".to_vec()), (1, b"07".to_vec()), (1, b"17".to_vec())];
     let places = gen::day_contents(file);
     for place in &places {
         faults.extend(other_texts(&file[place.name.clone()]).map(|text| (place.name.start, text)));
@@ -307,7 +306,7 @@ fn refused_files(rng: &mut Rng, kind: Kind) -> Vec<(u64, Vec<u8>)> {
 fn repeat_key(kind: Kind, file: &mut [u8]) {
     let size = kind.record_length();
     let place = |record: usize, item| record * size + 19 + gen::body_item(kind, item).start;
-    if kind.pair() == PairKind::Enrolment {
+    if !kind.is_debit() {
         // Not every kind of enrolment may have this blank.
         file[place(2, 9)] = b'8';
     }
@@ -322,9 +321,12 @@ fn repeat_key(kind: Kind, file: &mut [u8]) {
 #[test]
 fn every_kind_under_every_name() {
     let (mut both, mut rng) = (both(), Rng::new(settings::seed()));
-    let day = four_kinds(&mut rng, 2);
+    let day = all_kinds(&mut rng, 2);
     let mut names: Vec<Vec<u8>> = Kind::ALL.iter().map(|kind| kind.letters().to_vec()).collect();
-    for other in ["EB11", "EB12", "EB15", "EB20", "EB23", "EC21", "EC22", "EI13", "eb13", "    ", "0000"] {
+    for other in ["EB11", "EB12", "EB15", "EB20", "EB23", "EC13", "EC14", "EC20", "EC23", "ED21", "ED22"] {
+        names.push(other.as_bytes().to_vec());
+    }
+    for other in ["EI13", "eb13", "ec21", "    ", "0000"] {
         names.push(other.as_bytes().to_vec());
     }
     for body in &day.bodies {
@@ -351,7 +353,7 @@ fn every_kind_under_every_name() {
 #[test]
 fn every_day_in_the_name() {
     let (mut both, mut rng) = (both(), Rng::new(settings::seed()));
-    for mut body in four_kinds(&mut rng, 1).bodies {
+    for mut body in all_kinds(&mut rng, 1).bodies {
         let own = body.name.clone();
         let mut accepted = 0;
         for day in (0..10_000).step_by(7).chain([own_day(&own)]) {
@@ -372,7 +374,7 @@ fn own_day(name: &[u8]) -> u64 {
 #[test]
 fn every_beginning_of_a_file() {
     let (mut both, mut rng) = (both(), Rng::new(settings::seed()));
-    for day in [four_kinds(&mut rng, 2), gen::day_of(&mut rng, MOST_BODIES), DayDraft::default()] {
+    for day in [all_kinds(&mut rng, 2), gen::day_of(&mut rng, MOST_BODIES), DayDraft::default()] {
         let (file, start) = (day.file(), bodies_start(day.bodies.len()));
         for length in 0..file.len() {
             let expected = DayAnswer::alone(if length < start { 30 } else { 31 });
@@ -446,8 +448,10 @@ fn the_longest_bodies() {
         (99_900, Kind::EB21, 3),
         (99_960, Kind::EB13, 3),
         (64_950, Kind::EB22, 3),
+        (64_950, Kind::EC21, 3),
         (51_960, Kind::EB14, 3),
         (64_800, Kind::EB21, 4),
+        (64_800, Kind::EC22, 4),
         (51_840, Kind::EB13, 4),
     ] {
         let body = NamedBody { name: name_in(kind, "0315"), file: vec![b' '; length] };

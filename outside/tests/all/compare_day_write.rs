@@ -2,7 +2,7 @@
 //!
 //! `OUTSIDE_SEED` and `OUTSIDE_COUNT` choose the generated inputs.
 
-use super::common::{check_coverage, day_shown, four_kinds, keep, proved_day_shown, refused_in_parts};
+use super::common::{all_kinds, check_coverage, day_shown, keep, proved_day_shown, refused_in_parts};
 use outside::bridge::{ask, Call, Queue, Said};
 use outside::coverage::Counter;
 use outside::coverage_day::DayOperation;
@@ -124,7 +124,7 @@ fn refused(told: DayAnswer, room: usize) -> Written {
 #[test]
 fn every_length_of_the_room() {
     let (mut both, mut rng) = (both(), Rng::new(settings::seed()));
-    for day in [four_kinds(&mut rng, 1), gen::day_of(&mut rng, 1), DayDraft::default()] {
+    for day in [all_kinds(&mut rng, 1), gen::day_of(&mut rng, 1), DayDraft::default()] {
         let file = day.file();
         for room in (0..=file.len() + 30).filter(|room| file.len() < 2_000 || room % 97 == 0) {
             let written = compare(&mut both, input(&day, room));
@@ -165,7 +165,7 @@ fn every_number_of_names_and_lengths() {
 #[test]
 fn every_beginning_of_the_bodies() {
     let (mut both, mut rng) = (both(), Rng::new(settings::seed()));
-    let day = four_kinds(&mut rng, 1);
+    let day = all_kinds(&mut rng, 1);
     let good = input(&day, day.file().len());
     for length in 0..good.bodies.len() + 9 {
         let mut input = good.clone();
@@ -225,7 +225,7 @@ fn sums_past_the_largest_number() {
 #[test]
 fn the_order_of_refusals() {
     let (mut both, mut rng) = (both(), Rng::new(settings::seed()));
-    let day = four_kinds(&mut rng, 2);
+    let day = all_kinds(&mut rng, 2);
     let file = day.file();
     for room in [0, file.len() - 1, file.len()] {
         let good = input(&day, room);
@@ -258,7 +258,7 @@ fn the_order_of_refusals() {
 #[test]
 fn every_byte_of_the_names() {
     let (mut both, mut rng) = (both(), Rng::new(settings::seed()));
-    let day = four_kinds(&mut rng, 1);
+    let day = all_kinds(&mut rng, 1);
     let good = input(&day, day.file().len());
     for place in 0..good.names.len() {
         for byte in 0..=255 {

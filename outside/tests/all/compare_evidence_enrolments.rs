@@ -213,12 +213,12 @@ fn every_beginning_of_both_files() {
 fn every_kind_of_file() {
     let (mut both, mut rng) = (both(), Rng::new(settings::seed()));
     let (enrolments, evidence) = enrolments_of(&mut rng, Profile::Ordinary, b"1");
-    let mut files: Vec<Vec<u8>> = Kind::ALL.iter().map(|&kind| good_file(&mut rng, kind, 1)).collect();
-    files.extend([vec![], enrolments.file(), evidence.file()]);
+    let mut files = vec![enrolments.file(), evidence.file(), vec![]];
+    files.extend(Kind::ALL.iter().map(|&kind| good_file(&mut rng, kind, 1)));
     for (at, one) in files.iter().enumerate() {
         for (beside, other) in files.iter().enumerate() {
             let told = compare(&mut both, 0, one, other);
-            assert_eq!(told.is_accepted(), (at, beside) == (5, 6));
+            assert_eq!(told.is_accepted(), (at, beside) == (0, 1));
         }
     }
 }

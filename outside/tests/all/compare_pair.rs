@@ -6,7 +6,7 @@ use super::common::{check_coverage, good_file, keep, put, shown};
 use outside::bridge::{ask, Call, Queue, Said};
 use outside::coverage::{Counter, Operation};
 use outside::gen::{self, Draft, Rng, LARGEST_AMOUNT};
-use outside::layout::{is_bank_code, is_centre_code, table_codes, Kind, PairKind, MOST_RECORDS};
+use outside::layout::{is_bank_code, is_centre_code, table_codes, Family, Kind, PairKind, MOST_RECORDS};
 use outside::shrink::shrink;
 use outside::{outcome, pair, settings, ten_of_outcome, Answer};
 use std::collections::BTreeMap;
@@ -234,7 +234,7 @@ fn random_bytes() {
 /// A good request, with amounts and types of our own where it is a debit.
 fn request_of(rng: &mut Rng, kinds: PairKind, n: usize, asks: impl Fn(usize) -> (u64, u8)) -> Draft {
     let mut draft = gen::request_of(rng, kinds.request(), n);
-    if kinds == PairKind::Debit {
+    if kinds.is_debit() {
         for (before, body) in draft.bodies.iter_mut().enumerate() {
             let (amount, debit_type) = asks(before);
             put_item(draft.kind, body, 6, format!("{amount:013}").as_bytes());
@@ -253,7 +253,7 @@ fn result_of(request: &Draft, answers: &[(usize, &[u8; 5], u64)]) -> Draft {
     for &(which, told, won) in answers {
         let mut body = request.bodies[which].clone();
         put_item(result.kind, &mut body, kinds.result_item(), told);
-        if kinds == PairKind::Debit {
+        if kinds.is_debit() {
             put_item(result.kind, &mut body, 6, format!("{won:013}").as_bytes());
         }
         result.bodies.push(body);
@@ -268,7 +268,7 @@ fn put_item(kind: Kind, body: &mut [u8], item: usize, text: &[u8]) {
 /// Two requests of 20,000 won, type "2", both answered: "N", and "P" 5,000 in debit.
 fn two_answered(rng: &mut Rng, kinds: PairKind) -> (Draft, Draft) {
     let request = request_of(rng, kinds, 2, |_| (20_000, b'2'));
-    let second: (&[u8; 5], u64) = if kinds == PairKind::Debit { (b"P0021", 5_000) } else { (b"N0012", 1) };
+    let second: (&[u8; 5], u64) = if kinds.is_debit() { (b"P0021", 5_000) } else { (b"N0012", 1) };
     let result = result_of(&request, &[(1, second.0, second.1), (0, b"N0021", 20_000)]);
     (request, result)
 }
@@ -301,9 +301,9 @@ fn every_number_of_requests() {
 
 /// What a request asks.
 fn asked(kinds: PairKind, body: &[u8]) -> u64 {
-    match kinds {
-        PairKind::Enrolment => 1,
-        PairKind::Debit => body[23..36].iter().fold(0, |sum, digit| sum * 10 + u64::from(digit - b'0')),
+    match kinds.family() {
+        Family::Enrolment => 1,
+        Family::Debit => body[23..36].iter().fold(0, |sum, digit| sum * 10 + u64::from(digit - b'0')),
     }
 }
 
@@ -311,15 +311,15 @@ fn asked(kinds: PairKind, body: &[u8]) -> u64 {
 #[test]
 fn every_order_of_results() {
     let (mut both, mut rng) = (both(), Rng::new(settings::seed()));
-    let mut accepted = 0;
     for kinds in PairKind::ALL {
+        let mut accepted = 0;
         // The last one is the stranger.
         let all = request_of(&mut rng, kinds, 4, |_| (20_000, b'2'));
         let mut request = all.clone();
         request.bodies.pop();
-        let answers: Vec<(usize, &[u8; 5], u64)> = match kinds {
-            PairKind::Enrolment => (0..4).map(|which| (which, b"N0021", 1)).collect(),
-            PairKind::Debit => {
+        let answers: Vec<(usize, &[u8; 5], u64)> = match kinds.family() {
+            Family::Enrolment => (0..4).map(|which| (which, b"N0021", 1)).collect(),
+            Family::Debit => {
                 let refused = (0..4).map(|which| (which, b"N0021", 20_000));
                 refused.chain((0..3).map(|which| (which, b"P    ", 7_000))).collect()
             }
@@ -332,9 +332,10 @@ fn every_order_of_results() {
                 accepted += u64::from(told.is_accepted());
             }
         }
+        // 1 + 3 + 6 + 6 orders of enrolments; in debit each answer is one of two.
+        let orders = if kinds.is_debit() { 1 + 3 * 2 + 6 * 4 + 6 * 8 } else { 16 };
+        assert_eq!(accepted, orders, "{kinds:?}");
     }
-    // 1 + 3 + 6 + 6 orders of enrolments; in debit each answer is one of two.
-    assert_eq!(accepted, 16 + (1 + 3 * 2 + 6 * 4 + 6 * 8));
 }
 
 /// The pair by both, and what the rules say of answers that are all possible.
@@ -362,13 +363,36 @@ fn meet(both: &mut Both, request: &Draft, all: &Draft, answers: &[(usize, &[u8; 
     told
 }
 
-/// The least that may be taken in part, type by type; type "1" has none.
-const BASES: [(u8, u64); 7] =
-    [(b'0', 140), (b'1', 0), (b'2', 1_000), (b'3', 2_000), (b'4', 3_000), (b'5', 4_000), (b'6', 5_000)];
+/// The debits, and the least amount of each, which is the base of type "0".
+const DEBITS: [(PairKind, u64); 2] = [(PairKind::NextDay, 140), (PairKind::SameDay, 300)];
+
+const TYPES: std::ops::RangeInclusive<u8> = b'0'..=b'6';
+
+/// The least that may be taken in part; type "1" has none.
+fn base(least: u64, debit_type: u8) -> u64 {
+    match debit_type {
+        b'0' => least,
+        b'1' => 0,
+        b'2' => 1_000,
+        b'3' => 2_000,
+        b'4' => 3_000,
+        b'5' => 4_000,
+        _ => 5_000,
+    }
+}
+
+/// Every base of either sort of debit.
+fn bases() -> Vec<u64> {
+    let of_debit = |(_, least)| TYPES.map(move |debit_type| base(least, debit_type));
+    let mut bases: Vec<u64> = DEBITS.into_iter().flat_map(of_debit).collect();
+    bases.sort();
+    bases.dedup();
+    bases
+}
 
 /// Amounts one below, at and one above every base, their sums, and the smallest and largest.
 fn edges() -> Vec<u64> {
-    let bases: Vec<u64> = BASES.iter().map(|base| base.1).collect();
+    let bases = bases();
     let sums = bases.iter().flat_map(|one| bases.iter().map(move |other| one + other));
     let mut edges: Vec<u64> = sums.flat_map(|sum| [sum.saturating_sub(1), sum, sum + 1]).collect();
     edges.extend([LARGEST_AMOUNT - 1, LARGEST_AMOUNT]);
@@ -381,50 +405,63 @@ fn edges() -> Vec<u64> {
 #[test]
 fn amounts_at_every_edge() {
     let (mut both, mut rng) = (both(), Rng::new(settings::seed()));
-    let mut reached = BTreeMap::new();
-    for (debit_type, _) in BASES {
-        for a in edges() {
-            let request = request_of(&mut rng, PairKind::Debit, 1, |_| (a, debit_type));
+    for (kinds, least) in DEBITS {
+        let mut reached = BTreeMap::new();
+        for (debit_type, a) in
+            TYPES.flat_map(|debit_type| edges().into_iter().map(move |a| (debit_type, a)))
+        {
+            let request = request_of(&mut rng, kinds, 1, |_| (a, debit_type));
             let near =
-                BASES.iter().flat_map(|base| [a.saturating_sub(base.1 + 1), a.saturating_sub(base.1)]);
+                bases().into_iter().flat_map(|base| [a - 1, a, a + 1].map(|a| a.saturating_sub(base)));
             let mut amounts: Vec<u64> = edges().into_iter().chain(near).chain([a + 1, a, a - 1]).collect();
             amounts.sort();
             amounts.dedup();
             for u in amounts.into_iter().filter(|u| *u <= LARGEST_AMOUNT) {
                 for mark in [b"N0021", b"P0021", b"P    "] {
-                    let told = debit_told(&mut both, &request, a, debit_type, mark, u);
+                    let told = debit_told(&mut both, &request, least, (a, debit_type), mark, u);
                     *reached.entry((told.side, told.number, told.item)).or_insert(0u64) += 1;
                 }
             }
         }
-    }
-    println!("answers by side, number and item: {reached:?}");
-    for answer in [(0, 0, 0), (0, 14, 6), (0, 14, 13), (1, 4, 13), (2, 4, 6)] {
-        assert!(reached.contains_key(&answer), "never reached: {answer:?}");
+        println!("{kinds:?}, answers by side, number and item: {reached:?}");
+        for answer in [(0, 0, 0), (0, 14, 6), (0, 14, 13), (1, 4, 13), (2, 4, 6)] {
+            assert!(reached.contains_key(&answer), "never reached: {answer:?}");
+        }
     }
 }
 
 #[test]
 fn every_small_amount() {
     let (mut both, mut rng) = (both(), Rng::new(settings::seed()));
-    for (debit_type, _) in BASES {
-        for a in [1, 2, 139, 140, 141, 142, 280, 281, 1_139] {
-            let request = request_of(&mut rng, PairKind::Debit, 1, |_| (a, debit_type));
-            for u in 0..=a + 1 {
-                debit_told(&mut both, &request, a, debit_type, b"N0021", u);
-                debit_told(&mut both, &request, a, debit_type, b"P0021", u);
+    for (kinds, least) in DEBITS {
+        for debit_type in TYPES {
+            for a in [1, 2, 139, 140, 141, 142, 280, 281, 299, 300, 301, 302, 600, 601, 1_139, 1_299] {
+                let request = request_of(&mut rng, kinds, 1, |_| (a, debit_type));
+                for u in 0..=a + 1 {
+                    for mark in [b"N0021", b"P0021"] {
+                        debit_told(&mut both, &request, least, (a, debit_type), mark, u);
+                    }
+                }
             }
         }
     }
 }
 
-/// One debit by both, and what the rules say of it.
-fn debit_told(both: &mut Both, request: &Draft, a: u64, debit_type: u8, mark: &[u8; 5], u: u64) -> Answer {
+/// One debit by both, and what the rules say of it: `a` won of a type, of which `u` are not taken.
+fn debit_told(
+    both: &mut Both,
+    request: &Draft,
+    least: u64,
+    (a, debit_type): (u64, u8),
+    mark: &[u8; 5],
+    u: u64,
+) -> Answer {
+    let kinds = request.kind.pair();
     let result = result_of(request, &[(0, mark, u)]).file();
-    let (told, taken, not_taken) = paired(both, PairKind::Debit, &request.file(), &result);
-    compare(both, PairKind::Debit.number(), &request.file(), &result, Asked::Outcome(1));
-    let base = BASES.iter().find(|base| base.0 == debit_type).map_or(0, |base| base.1);
-    let expected = if a < 140 && debit_type != b'1' {
+    let (told, taken, not_taken) = paired(both, kinds, &request.file(), &result);
+    compare(both, kinds.number(), &request.file(), &result, Asked::Outcome(1));
+    let base = base(least, debit_type);
+    let expected = if a < least && debit_type != b'1' {
         Answer::broken(1, 13, b"0075").on_side(1)
     } else if u == 0 {
         Answer::broken(1, 6, b"0061").on_side(2)
@@ -435,7 +472,7 @@ fn debit_told(both: &mut Both, request: &Draft, a: u64, debit_type: u8, mark: &[
     } else {
         Answer::placed(14, 1, 6)
     };
-    assert_eq!(told, expected, "type {}, {a} won, {u} not taken", debit_type as char);
+    assert_eq!(told, expected, "{kinds:?}, type {}, {a} won, {u} not taken", debit_type as char);
     if told.is_accepted() {
         assert_eq!((taken, not_taken), (vec![a - u], vec![u]));
     }
@@ -514,7 +551,7 @@ fn every_two_differences() {
 fn every_difference_of_headers() {
     let (mut both, mut rng) = (both(), Rng::new(settings::seed()));
     for kinds in PairKind::ALL {
-        let items: &[usize] = if kinds == PairKind::Debit { &[3, 5, 6, 7] } else { &[3, 5] };
+        let items: &[usize] = if kinds.is_debit() { &[3, 5, 6, 7] } else { &[3, 5] };
         for round in 0..200 {
             let (request, good) = two_answered(&mut rng, kinds);
             if &request.date[..2] >= LATER_YEAR {
@@ -602,6 +639,37 @@ fn every_kind_of_file() {
     }
 }
 
+/// A next-day or same-day request beside a next-day or same-day result, as a pair of every kind: alike but for the names'
+/// kinds, and only the kinds of the pair meet.
+#[test]
+fn every_mix_of_debits() {
+    let (mut both, mut rng) = (both(), Rng::new(settings::seed()));
+    for n in 0..=4 {
+        let good = request_of(&mut rng, PairKind::SameDay, n, |_| (20_000, b'2'));
+        let answers: Vec<_> = (0..n).step_by(2).map(|which| (which, b"P0096", 5_000)).collect();
+        for (asking, answering) in DEBITS.iter().flat_map(|one| DEBITS.map(|other| (one.0, other.0))) {
+            let request = Draft { kind: asking.request(), ..good.clone() };
+            let result = Draft { kind: answering.result(), ..result_of(&good, &answers) };
+            let (request, result) = (request.file(), result.file());
+            for kinds in PairKind::ALL {
+                let told = compare(&mut both, kinds.number(), &request, &result, lists(n, n)).0;
+                let another_kind = Answer::placed(5, 0, 4);
+                let expected = if !kinds.is_debit() && (n + 2) * 150 % 120 != 0 {
+                    Answer::without_place(2).on_side(1)
+                } else if kinds != asking {
+                    another_kind.on_side(1)
+                } else if kinds != answering {
+                    another_kind.on_side(2)
+                } else {
+                    Answer::accepted()
+                };
+                assert_eq!(told, expected, "{asking:?} beside {answering:?}, as {kinds:?}");
+                all_outcomes(&mut both, kinds, &request, &result);
+            }
+        }
+    }
+}
+
 #[test]
 fn every_beginning_of_both_files() {
     let (mut both, mut rng) = (both(), Rng::new(settings::seed()));
@@ -636,7 +704,7 @@ fn every_length_of_the_lists() {
                     let room = taken >= n && not_taken >= n;
                     assert_eq!(told, Answer::without_place(if room { 0 } else { 8 }));
                     for place in 0..if room { n } else { 0 } {
-                        let asked = if kinds == PairKind::Debit { 20_000 } else { 1 };
+                        let asked = if kinds.is_debit() { 20_000 } else { 1 };
                         (ones[place], others[place]) = if place % 2 == 0 { (0, asked) } else { (asked, 0) };
                     }
                     assert_eq!(numbers[5..], [ones, others].concat(), "places past the requests stay");
@@ -657,7 +725,7 @@ fn every_code_of_an_outcome() {
                 let result = result_of(&request, &[(1, &told, if mark == b'N' { 20_000 } else { 1 })]);
                 all_outcomes(&mut both, kinds, &request.file(), &result.file());
                 let maker = u64::from(is_bank_code(code)) + 2 * u64::from(is_centre_code(code));
-                let good = if mark == b'N' { maker > 0 } else { kinds == PairKind::Debit };
+                let good = if mark == b'N' { maker > 0 } else { kinds.is_debit() };
                 let expected = [1, 2, 3].map(|record| u64::from(good && record == 2) * maker);
                 let makers = [1, 2, 3].map(|record| {
                     let asked = Asked::Outcome(record);
@@ -673,11 +741,11 @@ fn every_code_of_an_outcome() {
 #[test]
 fn every_count_of_failures_by_the_centre() {
     let (mut both, mut rng) = (both(), Rng::new(settings::seed()));
-    let kinds = PairKind::Debit;
-    let request = request_of(&mut rng, kinds, 3, |_| (20_000, b'2'));
     let answers: [(&[u8; 5], u64); 4] =
         [(b"N0021", 20_000), (b"N9999", 20_000), (b"P0096", 1), (b"N9998", 19_999)];
-    for choice in 0..4_usize.pow(3) {
+    let choices = |(kinds, _)| (0..4_usize.pow(3)).map(move |choice| (kinds, choice));
+    for (kinds, choice) in DEBITS.into_iter().flat_map(choices) {
+        let request = request_of(&mut rng, kinds, 3, |_| (20_000, b'2'));
         let chosen = [0, 1, 2].map(|record| answers[choice >> (2 * record) & 3]);
         let listed = [0, 1, 2].map(|record| (record, chosen[record].0, chosen[record].1));
         let mut result = result_of(&request, &listed).file();

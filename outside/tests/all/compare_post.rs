@@ -5,7 +5,7 @@
 use super::common::{check_coverage, good_file, keep};
 use outside::bridge::{ask, Call, Queue, Said};
 use outside::coverage::{Counter, Operation};
-use outside::gen::{self, Rng};
+use outside::gen::{self, Draft, Rng};
 use outside::layout::{is_bank_code, table_codes, Kind, PairKind};
 use outside::post::{settle_files, LONGEST_FILE};
 use outside::shrink::shrink;
@@ -99,11 +99,11 @@ fn generated_pairs() {
     check_coverage(&counter, count);
 }
 
-/// A pair of which at least one half is meant for a debit.
+/// A pair that is mostly meant for a next-day debit.
 fn debit_pair(rng: &mut Rng) -> (Vec<u8>, Vec<u8>) {
     loop {
         let (number, request, result) = gen::any_pair(rng);
-        if number == PairKind::Debit.number() || rng.once_in(20) {
+        if number == PairKind::NextDay.number() || rng.once_in(20) {
             return (request, result);
         }
     }
@@ -137,6 +137,30 @@ fn every_number_of_requests() {
         let request = gen::request_of(&mut rng, Kind::EB21, n);
         let result = gen::result_of(&mut rng, &request, true);
         compare(&mut both, &request.file(), &result.file());
+    }
+}
+
+/// Same-day debits are not posted: each file is told by its name, request first.
+#[test]
+fn every_mix_of_debits() {
+    let (mut both, mut rng) = (both(), Rng::new(settings::seed()));
+    for n in 0..20 {
+        let request = gen::request_of(&mut rng, Kind::EC21, n);
+        let result = gen::result_of(&mut rng, &request, true);
+        for (asking, answering, expected) in [
+            (Kind::EC21, Kind::EC22, "refused 1 5 0 4 0000"),
+            (Kind::EC21, Kind::EB22, "refused 1 5 0 4 0000"),
+            (Kind::EB21, Kind::EC22, "refused 2 5 0 4 0000"),
+            (Kind::EB21, Kind::EB22, "accepted"),
+        ] {
+            let request = Draft { kind: asking, ..request.clone() }.file();
+            let result = Draft { kind: answering, ..result.clone() }.file();
+            compare(&mut both, &request, &result);
+            let text = String::from_utf8(post(&request, &result)).expect("text");
+            let (first, lines) = text.split_once('\n').expect("a line");
+            assert!(first.starts_with(expected), "{asking:?} beside {answering:?}: {first}");
+            assert_eq!(lines.lines().count(), if expected == "accepted" { n } else { 0 });
+        }
     }
 }
 

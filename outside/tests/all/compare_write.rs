@@ -2,11 +2,11 @@
 //!
 //! `OUTSIDE_SEED` and `OUTSIDE_COUNT` choose the generated inputs.
 
-use super::common::{check_coverage, keep, proved_shown_with_room, shown};
+use super::common::{check_coverage, keep, proved_shown_with_room, put, shown, small_told};
 use outside::bridge::{ask, Call, Queue, Said};
 use outside::coverage::{Counter, Operation};
-use outside::gen::{self, Rng, WriteInput};
-use outside::layout::Kind;
+use outside::gen::{self, Draft, Rng, WriteInput};
+use outside::layout::{Kind, PairKind};
 use outside::proved::Parts;
 use outside::{settings, write, Answer};
 
@@ -27,12 +27,18 @@ fn said((told, room): &(Answer, Vec<u8>)) -> Said {
     Said::new(told.number).bytes(room).numbers(&told.five())
 }
 
-/// What both answer, which must be one, with the same bytes in the room.
-fn compare(both: &mut Queue<WriteInput>, input: WriteInput) -> Answer {
+type Both = Queue<WriteInput>;
+
+fn both() -> Both {
+    Queue::new(report)
+}
+
+/// What both answer and leave in the room, which must be one.
+fn compare(both: &mut Both, input: WriteInput) -> (Answer, Vec<u8>) {
     let ours = ours(&input);
     let call = call(&input);
     both.push(input, call, said(&ours));
-    ours.0
+    ours
 }
 
 fn differ(input: &WriteInput) -> bool {
@@ -72,15 +78,73 @@ fn report(input: &WriteInput) -> ! {
 #[test]
 fn generated_inputs_are_written_alike() {
     let (seed, count) = (settings::seed(), settings::count(50_000));
-    let (mut both, mut rng) = (Queue::new(report), Rng::new(seed));
+    let (mut both, mut rng) = (both(), Rng::new(seed));
     let mut counter = Counter::of(|operation| matches!(operation, Operation::Write(_)));
     for _ in 0..count {
         let input = gen::any_write(&mut rng);
         let kind = Kind::known(input.kind);
         let n = kind.map_or(0, |kind| input.bodies.len() / kind.body_length());
-        let told = compare(&mut both, input);
+        let (told, _) = compare(&mut both, input);
         counter.note(Operation::Write(kind), &told, n as u64);
     }
     println!("seed {seed}, {count} inputs by both");
     check_coverage(&counter, count);
+}
+
+// ------------------------------------------------------------------ every one
+
+/// What a file is written from, as one of this kind, with room for it.
+fn input(draft: &Draft, kind: u32) -> WriteInput {
+    let room = vec![0xc3; draft.file().len()];
+    let Draft { date, code, item6, item7, bodies, .. } = draft.clone();
+    WriteInput { kind, date, code, item6, item7, bodies: bodies.concat(), room }
+}
+
+/// The amount and the type of a debit.
+fn put_debit(body: &mut [u8], amount: u64, debit_type: u8) {
+    put(body, gen::body_item(Kind::EB21, 6).start, format!("{amount:013}").as_bytes());
+    put(body, gen::body_item(Kind::EB21, 13).start, &[debit_type]);
+}
+
+/// What makes one request, given for every kind: only requests are written, and one debit makes the other but for its name.
+#[test]
+fn every_kind_of_file() {
+    let (mut both, mut rng) = (both(), Rng::new(settings::seed()));
+    for (pair, n) in PairKind::ALL.into_iter().flat_map(|pair| (0..5).map(move |n| (pair, n))) {
+        let mut draft = gen::request_of(&mut rng, pair.request(), n);
+        if pair.is_debit() {
+            // As much as every debit may ask.
+            draft.bodies.iter_mut().for_each(|body| put_debit(body, 300, b'0'));
+        }
+        for number in Kind::ALL.map(Kind::number).into_iter().chain([0, u32::MAX, 0x4543_3230]) {
+            let given = input(&draft, number);
+            let before = given.room.clone();
+            let (told, room) = compare(&mut both, given);
+            let request = Kind::known(number).filter(|kind| kind.is_request());
+            let expected = match request {
+                None => (Answer::without_place(1), before),
+                // It has no items 6 and 7, or wants them.
+                Some(kind) if kind.family() != pair.family() => (Answer::without_place(2), before),
+                Some(kind) => (Answer::accepted(), Draft { kind, ..draft.clone() }.file()),
+            };
+            assert!((told, room) == expected, "{pair:?} as {number:#010x}: {told:?}");
+        }
+    }
+}
+
+/// The least amount goes by the kind that is written.
+#[test]
+fn small_amounts_of_every_type() {
+    let (mut both, mut rng) = (both(), Rng::new(settings::seed()));
+    for (kind, least) in [(Kind::EB21, 140), (Kind::EC21, 300)] {
+        let mut draft = gen::request_of(&mut rng, kind, 1);
+        for amount in 0..1_100 {
+            for debit_type in b'0'..=b'7' {
+                put_debit(&mut draft.bodies[0], amount, debit_type);
+                let expected = small_told(least, amount, debit_type);
+                let (told, _) = compare(&mut both, input(&draft, kind.number()));
+                assert_eq!(told, expected, "{kind:?}, {amount} won, type {}", debit_type as char);
+            }
+        }
+    }
 }

@@ -4,9 +4,10 @@
 use super::cases_day::{cases, lines, Asked, Case};
 use super::common::{held_to_a_list, names_differ, proved_day_shown, refused_in, refused_in_parts};
 use outside::bridge::{ask, Breach, Call, Said};
-use outside::coverage::Counter;
+use outside::coverage::{Counter, Operation};
 use outside::coverage_day::{DayEntry, DayOperation, Told};
 use outside::gen::DayWriteInput;
+use outside::layout::Kind;
 use outside::proved::DayParts;
 use outside::{day_body, day_read, day_write, eight_of_day, ten_of_body, Answer, DayAnswer};
 
@@ -114,6 +115,12 @@ fn note(counter: &mut [Counter<DayEntry>; 3], case: &Case) {
 fn the_list_has_every_answer() {
     let mut counters = [DayOperation::Read, DayOperation::Body, DayOperation::Write].map(Counter::of_day);
     cases().for_each(|case| note(&mut counters, &case));
+    for kind in Kind::ALL {
+        let read_as =
+            |told: Told| matches!(told, Told::Inner(own) if own.operation == Operation::Read(Some(kind)));
+        let reached = counters[0].rarest().into_iter().filter(|(_, times)| *times > 0);
+        assert!(reached.map(|(entry, _)| entry.told).any(read_as), "no refused body of {kind:?}");
+    }
     for counter in &counters {
         let unlisted = counter.unlisted();
         assert!(unlisted.is_empty(), "the rules can't give: {unlisted:#?}");
@@ -125,7 +132,7 @@ fn the_list_has_every_answer() {
     let [reading, asking, writing] = counters.map(|counter| counter.never());
     let reached = |never: &[DayEntry], told: Told| !never.iter().any(|entry| entry.told == told);
     for never in [&reading, &writing] {
-        assert!([0, 1, 2, 4, 16].into_iter().all(|bodies| reached(never, Told::Accepted(bodies))));
+        assert!([0, 1, 2, 4, 6, 16].into_iter().all(|bodies| reached(never, Told::Accepted(bodies))));
     }
     for body in 2..=16 {
         assert!(reached(&reading, Told::Repeated(body)), "32 at {body}");

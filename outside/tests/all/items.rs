@@ -534,15 +534,20 @@ fn bytes(cell: &str) -> (u64, u64) {
     (number(first), number(last))
 }
 
-/// The rules of one row as one kind has them; `EB13: ` before a rule is of that kind alone.
+/// `EB21, EB22 and EC21`: each of them.
+fn each(kinds: &str) -> Vec<&str> {
+    kinds.split(", ").flat_map(|some| some.split(" and ")).collect()
+}
+
+/// The rules of one row as one kind has them; `EB13: ` or `EB21 and EC21: ` before a rule is of these kinds alone.
 fn rules(row: &[&str], kind: &str, kinds: &[&str]) -> Vec<Rule> {
     let [item, place, name, said] = row else { panic!("not four cells: {row:?}") };
     assert!(name.contains(" (") && name.ends_with(')'), "a name in English (and in Korean): {name}");
     let ((first, last), mut found) = (bytes(place), Vec::new());
     for rule in said.split("; ") {
         let (of, rule) = rule.split_once(": ").unwrap_or((kind, rule));
-        assert!(kinds.contains(&of), "no kind of this table: {of}");
-        if of != kind {
+        assert!(each(of).iter().all(|one| kinds.contains(one)), "not kinds of this table: {of}");
+        if !each(of).contains(&kind) {
             continue;
         }
         let ended = rule.strip_suffix(')').and_then(|rule| rule.rsplit_once(" ("));
@@ -587,7 +592,7 @@ fn documented(text: &str) -> Records {
                 let (of, what) =
                     title.split_once(": ").unwrap_or_else(|| panic!("not understood: {title}"));
                 role = what;
-                kinds = if of == "EI13" { PROFILES.to_vec() } else { of.split(" and ").collect() };
+                kinds = if of == "EI13" { PROFILES.to_vec() } else { each(of) };
             }
             for kind in &kinds {
                 let key = (kind.to_string(), role.to_string());
@@ -728,7 +733,7 @@ pub fn changed(text: &str, from: &str, to: &str) -> String {
 fn every_item_is_documented_as_it_is() {
     let library = library_as_it_is();
     let found: usize = library.values().map(Vec::len).sum();
-    assert!(library.len() >= 18 && found >= 246, "only {} records with {found} rules", library.len());
+    assert!(library.len() >= 24 && found >= 336, "only {} records with {found} rules", library.len());
     assert_eq!(differences(&library, &documented(&text("docs/ITEMS.md"))), Vec::<String>::new());
 }
 
@@ -764,24 +769,31 @@ fn a_wrong_item_is_seen() {
         seen(type_row, &type_row.replace("117", "118")),
         [
             "EB21 data: 13 at 117 to 117, \"0\" to \"6\" (0075) | 13 at 118 to 118, \"0\" to \"6\" (0075)",
-            "EB22 data: 13 at 117 to 117, \"0\" to \"6\" (0075) | 13 at 118 to 118, \"0\" to \"6\" (0075)"
+            "EB22 data: 13 at 117 to 117, \"0\" to \"6\" (0075) | 13 at 118 to 118, \"0\" to \"6\" (0075)",
+            "EC21 data: 13 at 117 to 117, \"0\" to \"6\" (0075) | 13 at 118 to 118, \"0\" to \"6\" (0075)",
+            "EC22 data: 13 at 117 to 117, \"0\" to \"6\" (0075) | 13 at 118 to 118, \"0\" to \"6\" (0075)"
         ]
     );
-    assert_eq!(seen(type_row, &type_row.replace("0075", "0088")).len(), 2);
-    assert_eq!(seen(type_row, &type_row.replace("| 13 |", "| 14 |")).len(), 2);
+    assert_eq!(seen(type_row, &type_row.replace("0075", "0088")).len(), 4);
+    assert_eq!(seen(type_row, &type_row.replace("| 13 |", "| 14 |")).len(), 4);
     let filler = "| 13 | 97 | filler (FILLER) | only spaces (0089) |\n";
     assert_eq!(seen(filler, "").len(), 2);
     assert_eq!(seen(filler, &filler.repeat(2)).len(), 2);
-    // a rule of one kind alone, a rule's words, refusals 5 and 6, a rule too many, the order of rules
-    assert_eq!(seen("EB21: an amount of at least", "an amount of at least").len(), 1);
+    // a rule of one kind alone or of two, a rule's words, refusals 5 and 6, a rule too many, the order of rules
+    assert_eq!(seen("EB21: an amount of at least", "an amount of at least").len(), 3);
+    assert_eq!(seen("EC21: an amount of at least", "an amount of at least").len(), 3);
+    assert_eq!(seen("EC21: an amount of at least", "EC22: an amount of at least").len(), 2);
+    assert_eq!(seen("EB21 and EC21: only spaces", "only spaces").len(), 2);
     assert_eq!(seen("at least 140 won,", "at least 139 won,").len(), 1);
-    assert_eq!(seen("EB22: \"N\" and a table code, or", "EB22: \"N\", or").len(), 1);
-    assert_eq!(seen("all data records (refusal 6)", "all data records (refusal 5)").len(), 1);
-    assert_eq!(seen(" with a code of the centre (refusal 6)", " (refusal 6)").len(), 1);
-    assert_eq!(seen("only digits (0088); not zero (0061)", "only digits (0088)").len(), 2);
-    assert_eq!(seen("only digits (0088); not zero (0061)", "not zero (0061); only digits (0088)").len(), 2);
-    // a whole record
-    assert_eq!(seen("## EB22: trailer", "## EB23: trailer").len(), 2);
+    assert_eq!(seen("at least 300 won,", "at least 140 won,").len(), 1);
+    assert_eq!(seen("EB22 and EC22: \"N\" and a table code, or", "EB22 and EC22: \"N\", or").len(), 2);
+    assert_eq!(seen("all data records (refusal 6)", "all data records (refusal 5)").len(), 2);
+    assert_eq!(seen(" with a code of the centre (refusal 6)", " (refusal 6)").len(), 2);
+    assert_eq!(seen("only digits (0088); not zero (0061)", "only digits (0088)").len(), 4);
+    assert_eq!(seen("only digits (0088); not zero (0061)", "not zero (0061); only digits (0088)").len(), 4);
+    // a whole record: of another kind, or of one kind fewer
+    assert_eq!(seen("## EB22 and EC22: trailer", "## EB23 and EC22: trailer").len(), 2);
+    assert_eq!(seen("## EB22 and EC22: trailer", "## EB22: trailer").len(), 1);
     // evidence, of both profiles and of one
     assert_eq!(seen("| 10 | 107 | kind of evidence", "| 10 | 108 | kind of evidence").len(), 2);
     assert_eq!(seen("from there to the end of the block | filler", "120 | filler").len(), 2);
@@ -801,31 +813,31 @@ fn seen(path: &str, from: &str, to: &str) -> usize {
 /// A changed table of the library is seen: its rows, and which table a record has.
 #[test]
 fn a_changed_table_is_seen() {
-    assert_eq!(seen(TABLES, "row 6 42 13 NotZero c0061 ∷", ""), 2);
-    assert_eq!(seen(TABLES, "row 15 129 21 spaces c0089", "row 15 129 21 free c0089"), 2);
-    assert_eq!(seen(TABLES, "row 15 129 21 spaces c0089", "row 15 129 21 spaces c0090"), 2);
-    assert_eq!(seen(TABLES, "row 5 27 6 NameDate c0000", "row 5 27 6 NameDate c0088"), 4);
-    assert_eq!(seen(TABLES, "c0075 = 0x30303735", "c0075 = 0x30303736"), 2);
+    assert_eq!(seen(TABLES, "row 6 42 13 NotZero c0061 ∷", ""), 4);
+    assert_eq!(seen(TABLES, "row 15 129 21 spaces c0089", "row 15 129 21 free c0089"), 4);
+    assert_eq!(seen(TABLES, "row 15 129 21 spaces c0089", "row 15 129 21 spaces c0090"), 4);
+    assert_eq!(seen(TABLES, "row 5 27 6 NameDate c0000", "row 5 27 6 NameDate c0088"), 6);
+    assert_eq!(seen(TABLES, "c0075 = 0x30303735", "c0075 = 0x30303736"), 4);
     assert_eq!(
         seen(
             TABLES,
             "DebitRequest Trailer = debitRequestTrailer",
             "DebitRequest Trailer = debitResultTrailer"
         ),
-        1
+        2
     );
-    assert_eq!(seen(TOTALS, "total 7 43 13 Amounts ∷", ""), 1);
+    assert_eq!(seen(TOTALS, "total 7 43 13 Amounts ∷", ""), 2);
     assert_eq!(seen(TOTALS, "(OfKind 0x37)", "(OfKind 0x38)"), 2);
-    assert_eq!(seen(TOTALS, "(MarkedByCentre 0x4E)", "(MarkedByCentre 0x50)"), 1);
-    assert_eq!(seen(TOTALS, "(MarkedByCentre 0x4E)", "(Marked 0x4E)"), 1);
-    assert_eq!(seen(TOTALS, "total 10 77 8 (MarkedByCentre 0x4E) ∷", ""), 1);
+    assert_eq!(seen(TOTALS, "(MarkedByCentre 0x4E)", "(MarkedByCentre 0x50)"), 2);
+    assert_eq!(seen(TOTALS, "(MarkedByCentre 0x4E)", "(Marked 0x4E)"), 2);
+    assert_eq!(seen(TOTALS, "total 10 77 8 (MarkedByCentre 0x4E) ∷", ""), 2);
     assert_eq!(
         seen(
             TOTALS,
             "totalsFor DebitResult = debitResultTotals",
             "totalsFor DebitResult = debitRequestTotals"
         ),
-        1
+        2
     );
 }
 
@@ -833,22 +845,26 @@ fn a_changed_table_is_seen() {
 #[test]
 fn a_changed_kind_is_seen() {
     assert_eq!(seen(KINDS, "own 0x45423231 140", "own 0x45423231 139"), 1);
+    assert_eq!(seen(KINDS, "own 0x45433231 300", "own 0x45433231 140"), 1);
+    // Its data records and its trailer would be those of a result.
+    assert_eq!(seen(KINDS, "EC21 = kind DebitRequest", "EC21 = kind DebitResult"), 2);
     let enrolment = |request: &str, result: &str| {
         format!("EB13 = kind {request} ownEB13\n\nabbrev pub EB14 : Kind\nEB14 = kind {result} ownEB14\n")
     };
     let forms = ["EnrolmentRequest", "EnrolmentResult"];
     assert_eq!(seen(KINDS, &enrolment(forms[0], forms[1]), &enrolment(forms[1], forms[0])), 4);
     assert_eq!(seen(KINDS, "own 0x45423232", "own 0x45423233"), 6);
+    assert_eq!(seen(KINDS, "own 0x45433232", "own 0x45433233"), 6);
     let library = library_with(KINDS, |kinds| {
-        changed(&kinds, "kinds = EB13 ∷", "kinds = EC21 ∷ EB13 ∷") + &new_kind("DebitRequest")
+        changed(&kinds, "kinds = EB13 ∷", "kinds = ED21 ∷ EB13 ∷") + &new_kind("DebitRequest")
     });
     let found = differences(&library, &documented(&text("docs/ITEMS.md")));
-    assert!(found.len() == 3 && found.iter().all(|line| line.starts_with("EC21 ")), "{found:?}");
+    assert!(found.len() == 3 && found.iter().all(|line| line.starts_with("ED21 ")), "{found:?}");
 }
 
 fn new_kind(form: &str) -> String {
-    let own = "abbrev pub ownEC21 : Own\nownEC21 = own 0x45433231 0\n";
-    format!("{own}abbrev pub EC21 : Kind\nEC21 = kind {form} ownEC21\n")
+    let own = "abbrev pub ownED21 : Own\nownED21 = own 0x45443231 0\n";
+    format!("{own}abbrev pub ED21 : Kind\nED21 = kind {form} ownED21\n")
 }
 
 /// A changed table of evidence is seen, in the records of both profiles or of one.
@@ -933,7 +949,7 @@ fn a_form_without_rows_is_noticed() {
 }
 
 #[test]
-#[should_panic(expected = "not in the list of kinds: EC21")]
+#[should_panic(expected = "not in the list of kinds: ED21")]
 fn a_kind_that_is_not_listed_is_noticed() {
     library_with(KINDS, |kinds| kinds + &new_kind("DebitRequest"));
 }

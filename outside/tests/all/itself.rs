@@ -1,12 +1,13 @@
 //! The reference against the rules: their edge cases, the places where two
-//! careful readers of them could differ (a01 to a56, and q3a to q3c of makers
-//! and item 10), and properties over generated inputs.
+//! careful readers of them could differ (a01 to a56, q3a to q3c of makers and
+//! item 10, and q4a to q4e of same-day debits), and properties over generated
+//! inputs.
 //!
 //! `OUTSIDE_SEED` and `OUTSIDE_COUNT` choose the generated inputs.
 
 use outside::coverage::{Counter, Entry, Operation};
 use outside::gen::{self, Rng};
-use outside::layout::{is_table_code, Kind, PairKind};
+use outside::layout::{is_table_code, Family, Kind, PairKind};
 use outside::settings;
 use outside::{
     apart, eight, outcome, pair, post, post_into, read, ten_of_outcome, walk, write, Answer, Maker,
@@ -20,6 +21,10 @@ const EB13: u32 = 0x4542_3133;
 const EB14: u32 = 0x4542_3134;
 const EB21: u32 = 0x4542_3231;
 const EB22: u32 = 0x4542_3232;
+const EC21: u32 = 0x4543_3231;
+const EC22: u32 = 0x4543_3232;
+
+const KINDS: [&str; 6] = ["EB13", "EB14", "EB21", "EB22", "EC21", "EC22"];
 
 const CODE: &str = "9912345678";
 const DATE: &str = "240315";
@@ -102,7 +107,9 @@ fn trailer(kind: &str, bodies: &[Vec<u8>]) -> Vec<u8> {
             "",
             ""
         ),
-        "EB21" => format!("{start}{n:08}{:013}{:08}{:013}{:63}{:10}", sum(b" ") % most, 0, 0, "", ""),
+        "EB21" | "EC21" => {
+            format!("{start}{n:08}{:013}{:08}{:013}{:63}{:10}", sum(b" ") % most, 0, 0, "", "")
+        }
         _ => format!(
             "{start}{:08}{:013}{:08}{:013}{:08}{:04}{:011}{:011}{:29}{:10}",
             count(49, b'N'),
@@ -151,7 +158,12 @@ pub(super) fn put(kind: &str, file: &[u8], record: usize, start: usize, text: &[
 }
 
 fn one_debit(amount: u64, debit_type: &str) -> Vec<u8> {
-    file("EB21", &[debit(amount, debit_type, "A1", "")])
+    debit_in("EB21", amount, debit_type)
+}
+
+/// A request of this kind that asks for one debit.
+fn debit_in(kind: &str, amount: u64, debit_type: &str) -> Vec<u8> {
+    file(kind, &[debit(amount, debit_type, "A1", "")])
 }
 
 fn one_enrolment() -> Vec<u8> {
@@ -165,7 +177,7 @@ pub(super) fn sample(kind: &str) -> Vec<u8> {
         "EB14" => {
             vec![enrolment("1", "A", "N0012"), enrolment("3", "B", "NA016"), enrolment("7", "C", "N9999")]
         }
-        "EB21" => {
+        "EB21" | "EC21" => {
             vec![debit(10_000, "0", "A", ""), debit(20_000, "2", "B", ""), debit(30_000, "1", "C", "")]
         }
         _ => vec![
@@ -179,6 +191,15 @@ pub(super) fn sample(kind: &str) -> Vec<u8> {
 
 /// A pair of debits: asks (amount, type), results (payer number, u, result).
 fn debits(asks: &[(u64, &str)], results: &[(usize, u64, &str)]) -> (Vec<u8>, Vec<u8>) {
+    debits_in(["EB21", "EB22"], asks, results)
+}
+
+/// The same as files of these kinds.
+fn debits_in(
+    [request, result]: [&str; 2],
+    asks: &[(u64, &str)],
+    results: &[(usize, u64, &str)],
+) -> (Vec<u8>, Vec<u8>) {
     let name = |k: usize| format!("P{k}");
     let asked: Vec<_> = asks.iter().enumerate().map(|(k, (a, t))| debit(*a, t, &name(k + 1), "")).collect();
     let answered: Vec<_> = results
@@ -188,7 +209,7 @@ fn debits(asks: &[(u64, &str)], results: &[(usize, u64, &str)]) -> (Vec<u8>, Vec
             debit(*u, t, &name(*k), r)
         })
         .collect();
-    (file("EB21", &asked), file("EB22", &answered))
+    (file(request, &asked), file(result, &answered))
 }
 
 /// The pair's answer, with lists that are long enough.
@@ -204,9 +225,13 @@ fn pair_answer(number: u32, files: &(Vec<u8>, Vec<u8>)) -> Answer {
 }
 
 fn written(bodies: &[Vec<u8>], date: &str, room: usize) -> (Answer, Vec<u8>) {
+    written_as(EB21, bodies, date, room)
+}
+
+fn written_as(kind: u32, bodies: &[Vec<u8>], date: &str, room: usize) -> (Answer, Vec<u8>) {
     let mut room = vec![0xEE; room];
     let told = write(
-        EB21,
+        kind,
         date.as_bytes(),
         CODE.as_bytes(),
         b"0046554",
@@ -256,11 +281,12 @@ fn marked_edges() {
 
 #[test]
 fn other_edges() {
-    for kind in ["EB13", "EB14", "EB21", "EB22"] {
+    for kind in KINDS {
         let body = |k: usize| match kind {
             "EB13" => enrolment("1", &format!("P{k}"), ""),
             "EB14" => enrolment("1", &format!("P{k}"), "N0012"),
             "EB21" => debit(140, "0", &format!("P{k}"), ""),
+            "EC21" => debit(300, "0", &format!("P{k}"), ""),
             _ => debit(1, "0", &format!("P{k}"), "P    "),
         };
         let most: Vec<_> = (1..=430).map(body).collect();
@@ -276,12 +302,15 @@ fn other_edges() {
         assert_eq!(read(number(kind), &sample(kind)), accepted());
     }
     // The most records can be written, one more can't.
-    let body = |k: usize| debit(140, "0", &format!("P{k}"), "");
-    let most: Vec<_> = (1..=430).map(body).collect();
-    let more: Vec<_> = (1..=431).map(body).collect();
-    assert_eq!(written(&most, DATE, 64_800), (accepted(), file("EB21", &most)));
-    assert_eq!(written(&most, DATE, 64_799).0, answer(0, 8, 0, 0, "0000"));
-    assert_eq!(written(&more, DATE, 70_000).0, answer(0, 3, 0, 0, "0000"));
+    for (kind, least) in [("EB21", 140), ("EC21", 300)] {
+        let body = |k: usize| debit(least, "0", &format!("P{k}"), "");
+        let most: Vec<_> = (1..=430).map(body).collect();
+        let more: Vec<_> = (1..=431).map(body).collect();
+        let written = |bodies: &[Vec<u8>], room| written_as(number(kind), bodies, DATE, room);
+        assert_eq!(written(&most, 64_800), (accepted(), file(kind, &most)));
+        assert_eq!(written(&most, 64_799).0, answer(0, 8, 0, 0, "0000"));
+        assert_eq!(written(&more, 70_000).0, answer(0, 3, 0, 0, "0000"));
+    }
 }
 
 #[test]
@@ -303,14 +332,14 @@ fn the_layout_papers_starts() {
     let trailer21 = vec![0, 1, 9, 19, 27, 35, 43, 56, 64, 77, 140];
     let trailer22 = vec![0, 1, 9, 19, 27, 35, 43, 56, 64, 77, 85, 89, 100, 111, 140];
     for kind in Kind::ALL {
-        let enrolment = kind.pair() == PairKind::Enrolment;
+        let enrolment = [Kind::EB13, Kind::EB14].contains(&kind);
         let header = if enrolment { vec![0, 1, 9, 19, 27, 33] } else { vec![0, 1, 9, 19, 27, 33, 40, 56] };
         assert_eq!(starts(kind.header()), header);
         assert_eq!(&starts(kind.data()), if enrolment { &data1 } else { &data2 });
         let trailer = match kind {
             Kind::EB13 | Kind::EB14 => &trailer1,
-            Kind::EB21 => &trailer21,
-            Kind::EB22 => &trailer22,
+            Kind::EB21 | Kind::EC21 => &trailer21,
+            Kind::EB22 | Kind::EC22 => &trailer22,
         };
         assert_eq!(&starts(kind.trailer()), trailer);
         for lengths in [kind.header(), kind.data(), kind.trailer()] {
@@ -347,18 +376,23 @@ fn every_item_of_every_record() {
     let expected: [(&str, usize, &str); 12] = [
         ("EB13", 0, "0081 0081 0088 . 0088 0089"),
         ("EB14", 0, "0081 0081 0088 . 0088 0089"),
-        ("EB21", 0, "0081 0081 0088 . 0088 0011 0098 0089"),
-        ("EB22", 0, "0081 0081 0088 . 0088 0011 0098 0089"),
+        ("EB21 EC21", 0, "0081 0081 0088 . 0088 0011 0098 0089"),
+        ("EB22 EC22", 0, "0081 0081 0088 . 0088 0011 0098 0089"),
         ("EB13", 2, "0081 0081 . A011 A012 0098 0011 0098 0098 0089 0098 0089 0089 0088 0089 0089"),
         ("EB14", 2, "0081 0081 . A011 A012 0098 0011 0098 0098 0089 0098 0088 0089 0088 0089 0089"),
-        ("EB21", 2, "0081 0081 . 0011 0098 0088 0098 0089 0068 0098 0098 0088 0075 0088 0089"),
-        ("EB22", 2, "0081 0081 . 0011 0098 0088 0098 0088 0068 0098 0098 0088 0075 0088 0089"),
+        ("EB21 EC21", 2, "0081 0081 . 0011 0098 0088 0098 0089 0068 0098 0098 0088 0075 0088 0089"),
+        ("EB22 EC22", 2, "0081 0081 . 0011 0098 0088 0098 0088 0068 0098 0098 0088 0075 0088 0089"),
         ("EB13", 4, "0081 0081 . . 0088 0088 0090 0088 0088 0089 0089"),
         ("EB14", 4, "0081 0081 . . 0088 0088 0090 0088 0088 0089 0088"),
-        ("EB21", 4, "0081 0081 . . 0088 0088 0088 0090 0090 0089 0089"),
-        ("EB22", 4, "0081 0081 . . 0088 0088 0088 0088 0088 0088 0090 0088 0090 0089 0088"),
+        ("EB21 EC21", 4, "0081 0081 . . 0088 0088 0088 0090 0090 0089 0089"),
+        ("EB22 EC22", 4, "0081 0081 . . 0088 0088 0088 0088 0088 0088 0090 0088 0090 0089 0088"),
     ];
-    for (name, record, codes) in expected {
+    let each = expected
+        .iter()
+        .flat_map(|&(names, record, codes)| names.split(' ').map(move |name| (name, record, codes)));
+    let mut records = 0;
+    for (name, record, codes) in each {
+        records += 1;
         let kind = Kind::known(number(name)).unwrap();
         let lengths = match record {
             0 => kind.header(),
@@ -384,6 +418,7 @@ fn every_item_of_every_record() {
             start += item_length;
         }
     }
+    assert_eq!(records, 3 * KINDS.len());
 }
 
 // ------------------------------------------------------------------ a01 to a22
@@ -584,6 +619,10 @@ fn a15_fillers() {
         ("EB22", 0, 149, 8),
         ("EB22", 1, 129, 15),
         ("EB21", 1, 149, 15),
+        ("EC21", 0, 56, 8),
+        ("EC22", 0, 149, 8),
+        ("EC22", 1, 129, 15),
+        ("EC21", 1, 149, 15),
         ("EB14", 3, 110, 16),
     ] {
         let bad = put(kind, &sample(kind), record, start, b"0");
@@ -602,18 +641,20 @@ fn a16_a17_a18_trailers() {
     assert_eq!(read(EB13, &zero), answer(0, 4, 4, 7, "0090"));
     assert_eq!(read(EB13, &put("EB13", &zero, 4, 27, b"00000009")), answer(0, 4, 4, 7, "0090"));
     assert_eq!(read(EB13, &put("EB13", &good, 4, 43, b"       0")), answer(0, 4, 4, 7, "0090"));
-    // EB22 item 12: any digits.
-    let good = sample("EB22");
-    for digit in b"09" {
-        assert_eq!(read(EB22, &put("EB22", &good, 4, 89, &[*digit; 11])), accepted());
+    // EB22 and EC22 item 12: any digits.
+    for kind in ["EB22", "EC22"] {
+        let good = sample(kind);
+        for digit in b"09" {
+            assert_eq!(read(number(kind), &put(kind, &good, 4, 89, &[*digit; 11])), accepted());
+        }
+        assert_eq!(read(number(kind), &put(kind, &good, 4, 89, b" ")), answer(0, 4, 4, 12, "0088"));
     }
-    assert_eq!(read(EB22, &put("EB22", &good, 4, 89, b" ")), answer(0, 4, 4, 12, "0088"));
     // MAC: spaces in what we send, free text in what we get.
-    for (kind, start, item) in [("EB13", 110, 11), ("EB21", 140, 11)] {
+    for (kind, start, item) in [("EB13", 110, 11), ("EB21", 140, 11), ("EC21", 140, 11)] {
         let bad = put(kind, &sample(kind), 4, start, b"A");
         assert_eq!(read(number(kind), &bad), answer(0, 4, 4, item, "0089"));
     }
-    for (kind, start, item) in [("EB14", 110, 11), ("EB22", 140, 15)] {
+    for (kind, start, item) in [("EB14", 110, 11), ("EB22", 140, 15), ("EC22", 140, 15)] {
         assert_eq!(read(number(kind), &put(kind, &sample(kind), 4, start, b"~a ")), accepted());
         let bad = put(kind, &sample(kind), 4, start, b"\x7f");
         assert_eq!(read(number(kind), &bad), answer(0, 4, 4, item, "0088"));
@@ -640,11 +681,16 @@ fn a19_sums_over_13_digits() {
 
 #[test]
 fn a20_order_of_totals() {
+    let enrolments = vec![(5, 27, 8), (6, 35, 8), (8, 51, 8), (9, 59, 8)];
+    let requests = vec![(5, 27, 8), (6, 35, 8), (7, 43, 13)];
+    let results = vec![(5, 27, 8), (6, 35, 8), (7, 43, 13), (8, 56, 8), (9, 64, 13), (10, 77, 8)];
     for (kind, items) in [
-        ("EB13", vec![(5, 27, 8), (6, 35, 8), (8, 51, 8), (9, 59, 8)]),
-        ("EB14", vec![(5, 27, 8), (6, 35, 8), (8, 51, 8), (9, 59, 8)]),
-        ("EB21", vec![(5, 27, 8), (6, 35, 8), (7, 43, 13)]),
-        ("EB22", vec![(5, 27, 8), (6, 35, 8), (7, 43, 13), (8, 56, 8), (9, 64, 13), (10, 77, 8)]),
+        ("EB13", enrolments.clone()),
+        ("EB14", enrolments),
+        ("EB21", requests.clone()),
+        ("EB22", results.clone()),
+        ("EC21", requests),
+        ("EC22", results),
     ] {
         // From the last to the first: each earlier one wins.
         let mut file = sample(kind);
@@ -777,7 +823,7 @@ fn a27_sum_in_the_writer() {
 
 #[test]
 fn a29_kinds_of_the_writer() {
-    for kind in [EB14, EB22, 0, u32::MAX, number("EB11"), number("eb21")] {
+    for kind in [EB14, EB22, EC22, 0, u32::MAX, number("EB11"), number("EC20"), number("eb21")] {
         let told = write(kind, b"", b"99", b"1", b"2", b"3", &mut []);
         assert_eq!(told, answer(0, 1, 0, 0, "0000"));
     }
@@ -1027,7 +1073,7 @@ fn a47_outcomes_are_asked_last() {
 
 #[test]
 fn a49_a51_a52_the_walk() {
-    for kind in ["EB13", "EB14", "EB21", "EB22"] {
+    for kind in KINDS {
         let file = sample(kind);
         let length = length(kind) as u64;
         for place in 0..3 {
@@ -1317,6 +1363,221 @@ fn q3c_a_count_of_zero_is_good_without_the_centre() {
     assert_eq!(read(EB14, &file("EB14", &[enrolment("1", "A", "N0096")])), accepted());
 }
 
+// ----------------------------------------------------------------- q4a to q4e
+
+#[test]
+fn q4a_the_least_amount_of_each_day() {
+    let small = answer(0, 4, 1, 13, "0075");
+    for debit_type in ["0", "1", "2", "3", "4", "5", "6"] {
+        // Type "1" alone is exempt; the base of a type does not matter here.
+        let below = if debit_type == "1" { accepted() } else { small };
+        for (kind, least) in [("EB21", 140), ("EC21", 300)] {
+            let told = |amount| read(number(kind), &debit_in(kind, amount, debit_type));
+            assert_eq!(told(least), accepted(), "{kind} {debit_type}");
+            assert_eq!(told(least + 1), accepted(), "{kind} {debit_type}");
+            assert_eq!(told(least - 1), below, "{kind} {debit_type}");
+            assert_eq!(told(1), below, "{kind} {debit_type}");
+            assert_eq!(told(0), answer(0, 4, 1, 6, "0061"), "{kind} {debit_type}");
+        }
+        // What is between the two is enough for the next day and not for the same.
+        for amount in [140, 141, 200, 298, 299] {
+            assert_eq!(read(EB21, &debit_in("EB21", amount, debit_type)), accepted());
+            assert_eq!(read(EC21, &debit_in("EC21", amount, debit_type)), below);
+        }
+        // A result has no least amount.
+        for kind in ["EB22", "EC22"] {
+            let one = file(kind, &[debit(1, debit_type, "A", "N0021")]);
+            assert_eq!(read(number(kind), &one), accepted());
+        }
+    }
+    for debit_type in ["7", " ", "A"] {
+        assert_eq!(read(EC21, &debit_in("EC21", 1_000, debit_type)), small);
+    }
+    // At item 13: what is wrong before it is told first, what comes behind is not.
+    let both = put("EC21", &debit_in("EC21", 299, "0"), 1, 73, b"\x01");
+    assert_eq!(read(EC21, &both), answer(0, 4, 1, 9, "0068"));
+    let both = put("EC21", &debit_in("EC21", 299, "0"), 1, 117, b"\x01");
+    assert_eq!(read(EC21, &both), small);
+    // The second record.
+    let second = file("EC21", &[debit(300, "0", "A", ""), debit(299, "0", "B", "")]);
+    assert_eq!(read(EC21, &second), answer(0, 4, 2, 13, "0075"));
+}
+
+const SAME_DAY: [&str; 2] = ["EC21", "EC22"];
+
+#[test]
+fn q4b_the_least_that_is_taken_in_part() {
+    let told = |kinds: [&str; 2], a, debit_type: &str, u, result: &str| {
+        let (request, answered) = debits_in(kinds, &[(a, debit_type)], &[(1, u, result)]);
+        paired(number(kinds[0]), &request, &answered)
+    };
+    let fourteen = |item| (answer(0, 14, 1, item, "0000"), vec![77], vec![88]);
+    for (kinds, least) in [(["EB21", "EB22"], 140), (SAME_DAY, 300)] {
+        for (debit_type, base) in
+            [("0", least), ("2", 1_000), ("3", 2_000), ("4", 3_000), ("5", 4_000), ("6", 5_000)]
+        {
+            let a = 20_000;
+            for result in ["P0021", "P    "] {
+                let part = |taken| told(kinds, a, debit_type, a - taken, result);
+                for taken in [a - 1, base + 1, base] {
+                    assert_eq!(part(taken), (accepted(), vec![taken], vec![a - taken]), "{debit_type}");
+                }
+                for taken in [base - 1, 1, 0] {
+                    assert_eq!(part(taken), fourteen(6), "{kinds:?} {debit_type} {taken}");
+                }
+            }
+            assert_eq!(told(kinds, a, debit_type, a, "N0021"), (accepted(), vec![0], vec![a]));
+            assert_eq!(told(kinds, a, debit_type, a - 1, "N0021"), fourteen(6));
+        }
+        for u in [1, 499, 500, 501] {
+            assert_eq!(told(kinds, 500, "1", u, "P0021"), fourteen(13));
+        }
+        // Of the least that can be asked nothing can be left.
+        assert_eq!(told(kinds, least, "0", 1, "P0021"), fourteen(6));
+        assert_eq!(told(kinds, least, "0", least, "N0021"), (accepted(), vec![0], vec![least]));
+        assert_eq!(told(kinds, least + 1, "0", 1, "P0021"), (accepted(), vec![least], vec![1]));
+    }
+    // Between the two: 140 and 299 won that are taken reach the base of the next day alone.
+    for taken in [140, 299] {
+        let next_day = told(["EB21", "EB22"], 1_000, "0", 1_000 - taken, "P0021");
+        assert_eq!(next_day, (accepted(), vec![taken], vec![1_000 - taken]));
+        assert_eq!(told(SAME_DAY, 1_000, "0", 1_000 - taken, "P0021"), fourteen(6));
+    }
+    // Of type "2" 999 and 1,000, as ever; a request of 300 won is good, and no part of it can be taken.
+    assert_eq!(told(SAME_DAY, 20_000, "2", 19_000, "P0021"), (accepted(), vec![1_000], vec![19_000]));
+    assert_eq!(told(SAME_DAY, 20_000, "2", 19_001, "P0021"), fourteen(6));
+    assert_eq!(told(SAME_DAY, 300, "2", 1, "P0021"), fourteen(6));
+    assert_eq!(told(SAME_DAY, 299, "2", 1, "P0021").0, answer(1, 4, 1, 13, "0075"));
+}
+
+#[test]
+fn q4c_a_day_pairs_with_itself() {
+    let (asks, results) = ([(500, "0"), (600, "0")], [(2, 600, "N0096")]);
+    for (request, result, pair_kind, side) in [
+        ("EC21", "EC22", EC21, 0),
+        ("EC21", "EB22", EC21, 2),
+        ("EB21", "EC22", EC21, 1),
+        ("EB21", "EB22", EC21, 1),
+        ("EB21", "EB22", EB21, 0),
+        ("EB21", "EC22", EB21, 2),
+        ("EC21", "EB22", EB21, 1),
+        ("EC21", "EC22", EB21, 1),
+    ] {
+        let files = debits_in([request, result], &asks, &results);
+        let told = paired(pair_kind, &files.0, &files.1);
+        let asked = outcome(pair_kind, &files.0, &files.1, 2);
+        if side == 0 {
+            assert_eq!(told, (accepted(), vec![500, 0], vec![0, 600]));
+            assert_eq!(asked, (accepted(), Outcome::Refused { won: 600, code: *b"0096" }));
+        } else {
+            let another_kind = answer(side, 5, 0, 4, "0000");
+            assert_eq!(told, (another_kind, vec![77; 2], vec![88; 2]), "{request} {result}");
+            assert_eq!(asked, (another_kind, Outcome::None));
+        }
+    }
+    // By themselves: the kind that is asked for decides, and every other item is alike.
+    for (kind, other) in [("EB21", EC21), ("EC21", EB21), ("EB22", EC22), ("EC22", EB22)] {
+        assert_eq!(read(number(kind), &sample(kind)), accepted());
+        assert_eq!(read(other, &sample(kind)), answer(0, 5, 0, 4, "0000"));
+        assert_eq!(walk(other, &sample(kind), 0), (answer(0, 5, 0, 4, "0000"), Step::None));
+        // The trailer repeats the header's name.
+        let trailer = put(kind, &sample(kind), 4, 19, &other.to_be_bytes());
+        assert_eq!(read(number(kind), &trailer), answer(0, 5, 4, 4, "0000"));
+        let renamed = put(kind, &trailer, 0, 19, &other.to_be_bytes());
+        assert_eq!(read(other, &renamed), accepted());
+    }
+    // A result's kind names no pair, and enrolments meet no debit.
+    let files = debits_in(SAME_DAY, &asks, &results);
+    for unknown in [EC22, EB22, EB14, number("EC20"), number("EC13"), number("ec21"), 0] {
+        assert_eq!(pair_answer(unknown, &files), answer(0, 1, 0, 0, "0000"));
+    }
+    assert_eq!(files.0.len() % 120, 0);
+    assert_eq!(pair_answer(EB13, &files), answer(1, 5, 0, 4, "0000"));
+    // Headers of a pair agree in items 3, 5, 6 and 7.
+    for (item, start, text) in [(5, 27, &b"23"[..]), (6, 33, b"9"), (7, 40, b"9")] {
+        let other = put("EC22", &files.1, 0, start, text);
+        assert_eq!(paired(EC21, &files.0, &other).0, answer(0, 12, 0, item, "0000"));
+    }
+    // Keys, copied items and records that are asked for, as of the next day.
+    let other = put("EC22", &files.1, 1, 91, b"STRANGER");
+    assert_eq!(paired(EC21, &files.0, &other).0, answer(0, 13, 1, 11, "0000"));
+    let other = put("EC22", &files.1, 1, 26, b"9");
+    assert_eq!(paired(EC21, &files.0, &other).0, answer(0, 13, 1, 5, "0000"));
+    let twice = file("EC21", &[debit(500, "0", "A", ""), debit(600, "0", "A", "")]);
+    assert_eq!(read(EC21, &twice), answer(0, 7, 2, 11, "0000"));
+    for record in [0, 3] {
+        let told = outcome(EC21, &files.0, &files.1, record);
+        assert_eq!(told, (answer(0, 15, 0, 0, "0000"), Outcome::None));
+    }
+}
+
+#[test]
+fn q4d_same_day_requests_are_written_and_taken_apart() {
+    let bodies = [debit(300, "0", "A", ""), debit(299, "1", "B", ""), debit(5_000, "6", "C", "")];
+    let whole = file("EC21", &bodies);
+    assert_eq!(written_as(EC21, &bodies, DATE, 750), (accepted(), whole.clone()));
+    assert_eq!(written_as(EC21, &bodies, DATE, 749).0, answer(0, 8, 0, 0, "0000"));
+    assert_eq!(written_as(EC21, &[], DATE, 300), (accepted(), file("EC21", &[])));
+    assert_eq!(written_as(EB21, &bodies, DATE, 750), (accepted(), file("EB21", &bodies)));
+    // The least amount is that of the kind that is written.
+    for amount in [140, 299] {
+        let small = [debit(amount, "0", "A", "")];
+        let refused = (answer(0, 4, 1, 13, "0075"), vec![0xEE; 450]);
+        assert_eq!(written_as(EC21, &small, DATE, 450), refused);
+        assert_eq!(written_as(EB21, &small, DATE, 450), (accepted(), file("EB21", &small)));
+    }
+    // The sum has 13 digits, whichever day.
+    let over = [debit(9_999_999_999_999, "0", "A", ""), debit(1, "1", "B", "")];
+    assert_eq!(written_as(EC21, &over, DATE, 600).0, answer(0, 6, 3, 7, "0000"));
+    // Items 6 and 7 are wanted.
+    let told = write(EC21, DATE.as_bytes(), CODE.as_bytes(), b"", b"", b"", &mut [0; 300]);
+    assert_eq!(told, answer(0, 2, 0, 0, "0000"));
+    // Taken apart, by its own kind alone.
+    let mut memory = vec![0xEE; 3 * 131 + 1];
+    assert_eq!(apart(EC21, &whole, &mut memory), (accepted(), 3 * 131));
+    assert_eq!(memory, [&bodies.concat()[..], &[0xEE]].concat());
+    let untouched = vec![0xEE; 3 * 131];
+    for (kind, file, told) in [
+        (EB21, whole.clone(), answer(0, 5, 0, 4, "0000")),
+        (EC21, file("EB21", &bodies), answer(0, 5, 0, 4, "0000")),
+        (EC21, file("EC21", &[debit(299, "0", "A", "")]), answer(0, 4, 1, 13, "0075")),
+        (EC22, sample("EC22"), answer(0, 1, 0, 0, "0000")),
+        (EC22, whole, answer(0, 1, 0, 0, "0000")),
+    ] {
+        let mut memory = untouched.clone();
+        assert_eq!(apart(kind, &file, &mut memory), (told, 0));
+        assert_eq!(memory, untouched);
+    }
+    // Results are not written, whatever is given.
+    assert_eq!(written_as(EC22, &bodies, DATE, 750), (answer(0, 1, 0, 0, "0000"), vec![0xEE; 750]));
+}
+
+#[test]
+fn q4e_item_10_and_posting() {
+    // Of the sample's results one is "N" with a code of the centre.
+    let good = sample("EC22");
+    for number in [0, 1, 2, 3, 10, 99_999_999] {
+        let wanted = if number == 1 { accepted() } else { answer(0, 6, 4, 10, "0000") };
+        assert_eq!(read(EC22, &put("EC22", &good, 4, 77, format!("{number:08}").as_bytes())), wanted);
+    }
+    assert_eq!(read(EC22, &put("EC22", &good, 4, 77, b" ")), answer(0, 4, 4, 10, "0088"));
+    let by_centre = file("EC22", &[debit(500, "0", "A", "P0096")]);
+    assert_eq!(read(EC22, &by_centre), accepted());
+    assert_eq!(read(EC22, &put("EC22", &by_centre, 2, 84, b"1")), answer(0, 6, 2, 10, "0000"));
+    let (request, result) = debits_in(SAME_DAY, &[(500, "0")], &[(1, 500, "N0096")]);
+    let wrong = put("EC22", &result, 2, 84, b"0");
+    assert_eq!(paired(EC21, &request, &wrong).0, answer(2, 6, 2, 10, "0000"));
+    assert_eq!(outcome(EC21, &request, &result, 1).1.maker(), Maker::Centre);
+    // What is posted is of the next day, and each file is told by its name, request first.
+    let next_day = debits(&[(500, "0")], &[(1, 500, "N0096")]);
+    assert_eq!(posted(&request, &result), "refused 1 5 0 4 0000\n");
+    assert_eq!(posted(&request, &next_day.1), "refused 1 5 0 4 0000\n");
+    assert_eq!(posted(&next_day.0, &result), "refused 2 5 0 4 0000\n");
+    assert_eq!(posted(&request, &[]), "refused 1 5 0 4 0000\n");
+    let text = "accepted 1 500 0 500\n1 refused 0 500 0096 centre\n";
+    assert_eq!(posted(&next_day.0, &next_day.1), text);
+}
+
 // --------------------------------------------------------------- the generator
 
 fn lines(entries: &[Entry]) -> String {
@@ -1341,7 +1602,10 @@ struct Seen {
     records: u64,
     ends: u64,
     small_amounts: u64,
+    small_same_day_amounts: u64,
     bad_types: u64,
+    same_day_parts: u64,
+    same_day_not_posted: u64,
 }
 
 struct Run {
@@ -1385,7 +1649,10 @@ fn generated_inputs() {
             seen.records,
             seen.ends,
             seen.small_amounts,
+            seen.small_same_day_amounts,
             seen.bad_types,
+            seen.same_day_parts,
+            seen.same_day_not_posted,
         ] {
             assert!(times > 0, "{seen:?}");
         }
@@ -1416,10 +1683,16 @@ impl Run {
         }
     }
 
-    /// Both reasons for 0075 in EB21 shall occur.
+    /// Every reason for 0075 in a request shall occur, also an amount that only a same-day one may not have.
     fn note_0075(&mut self, kind: Option<Kind>, file: &[u8], told: &Answer) {
-        if kind == Some(Kind::EB21) && told.code == *b"0075" {
-            match file[told.record as usize * 150 + 116] {
+        if matches!(kind, Some(Kind::EB21 | Kind::EC21)) && told.code == *b"0075" {
+            let record = &file[told.record as usize * 150..];
+            let amount: u64 = std::str::from_utf8(&record[42..55]).unwrap().parse().unwrap();
+            match record[116] {
+                b'0'..=b'6' if amount >= 140 => {
+                    assert!(kind == Some(Kind::EC21) && amount < 300);
+                    self.seen.small_same_day_amounts += 1;
+                }
                 b'0'..=b'6' => self.seen.small_amounts += 1,
                 _ => self.seen.bad_types += 1,
             }
@@ -1493,8 +1766,8 @@ impl Run {
     fn check_changed_totals(&mut self, kind: Kind, file: &[u8]) {
         let places: &[(usize, usize)] = match kind {
             Kind::EB13 | Kind::EB14 => &[(27, 8), (35, 8), (51, 8), (59, 8)],
-            Kind::EB21 => &[(27, 8), (35, 8), (43, 13)],
-            Kind::EB22 => &[(27, 8), (35, 8), (43, 13), (56, 8), (64, 13), (77, 8)],
+            Kind::EB21 | Kind::EC21 => &[(27, 8), (35, 8), (43, 13)],
+            Kind::EB22 | Kind::EC22 => &[(27, 8), (35, 8), (43, 13), (56, 8), (64, 13), (77, 8)],
         };
         let (start, length) = self.rng.pick(places);
         let at = file.len() - kind.record_length() + start + self.rng.index(length);
@@ -1537,6 +1810,10 @@ impl Run {
         if number == EB21 {
             self.check_post(&request, &result, &full, n);
         }
+        if number == EC21 && full.0.is_accepted() {
+            assert_eq!(posted(&request, &result), "refused 1 5 0 4 0000\n");
+            self.seen.same_day_not_posted += 1;
+        }
     }
 
     /// The outcome of a record is what the lists say of it.
@@ -1566,12 +1843,12 @@ impl Run {
                 assert!(answer.is_accepted());
                 assert_eq!(outcome.taken(), taken[place]);
                 assert_eq!(outcome.not_taken(), not_taken[place]);
-                self.note_outcome(&outcome);
+                self.note_outcome(&outcome, number == EC21);
             }
         }
     }
 
-    fn note_outcome(&mut self, outcome: &Outcome) {
+    fn note_outcome(&mut self, outcome: &Outcome, same_day: bool) {
         let seen = &mut self.seen;
         match outcome {
             Outcome::None => panic!("an accepted pair has outcomes"),
@@ -1580,9 +1857,10 @@ impl Run {
                 seen.whole += 1;
             }
             Outcome::Part { taken, not_taken, code } => {
-                assert!(*taken >= 140 && *not_taken > 0);
+                assert!(*taken >= if same_day { 300 } else { 140 } && *not_taken > 0);
                 assert!(is_table_code(code) || code == b"    ");
                 seen.part += 1;
+                seen.same_day_parts += u64::from(same_day);
                 seen.part_blank += u64::from(code == b"    ");
                 seen.part_by_bank += u64::from(outcome.maker() == Maker::Bank);
                 seen.part_by_centre += u64::from(outcome.maker() == Maker::Centre);
@@ -1689,9 +1967,9 @@ fn check_rewriting(kind: Kind, file: &[u8]) {
     let length = kind.record_length();
     let mut bodies = vec![0; (file.len() / length - 2) * kind.body_length()];
     assert_eq!(apart(kind.number(), file, &mut bodies), (accepted(), bodies.len() as u64));
-    let (item6, item7) = match kind.pair() {
-        PairKind::Enrolment => (&file[..0], &file[..0]),
-        PairKind::Debit => (&file[33..40], &file[40..56]),
+    let (item6, item7) = match kind.family() {
+        Family::Enrolment => (&file[..0], &file[..0]),
+        Family::Debit => (&file[33..40], &file[40..56]),
     };
     let mut room = vec![0; file.len()];
     let told = write(kind.number(), &file[27..33], &file[9..19], item6, item7, &bodies, &mut room);
@@ -1705,9 +1983,9 @@ fn check_sums(pair: PairKind, request: &[u8], taken: &[u64], not_taken: &[u64]) 
     let records = request[length..request.len() - length].chunks(length);
     assert_eq!(records.len(), taken.len());
     for (record, (taken, not_taken)) in records.zip(taken.iter().zip(not_taken)) {
-        let asked = match pair {
-            PairKind::Enrolment => 1,
-            PairKind::Debit => std::str::from_utf8(&record[42..55]).unwrap().parse().unwrap(),
+        let asked = match pair.family() {
+            Family::Enrolment => 1,
+            Family::Debit => std::str::from_utf8(&record[42..55]).unwrap().parse().unwrap(),
         };
         assert_eq!(taken + not_taken, asked);
     }

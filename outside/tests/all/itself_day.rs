@@ -1,5 +1,5 @@
-//! The reference against the rules of day files: the places where two careful readers of them could differ (q2a to q2j, and
-//! q3c of item 10), every byte of the contents, every number that a body can be refused with, counts, cuts and round trips.
+//! The reference against the rules of day files: the places where two careful readers of them could differ (q2a to q2j, q3c
+//! of item 10, and q4f of same-day debits), every byte of the contents, every number that a body can be refused with, counts, cuts and round trips.
 
 use super::itself::{answer, debit, enrolment, file, length, number, put as put_in, sample};
 use outside::{day_body, day_read, day_write, eight_of_day, read, ten_of_body, Answer, DayAnswer, DayBody};
@@ -36,6 +36,11 @@ fn many(n: usize) -> Vec<Body> {
 
 fn four() -> Vec<Body> {
     ["EB130315", "EB140315", "EB210315", "EB220315"].map(body).to_vec()
+}
+
+/// All kinds.
+fn six() -> Vec<Body> {
+    [four(), vec![body("EC210315"), body("EC220315")]].concat()
 }
 
 fn day(bodies: &[Body]) -> Vec<u8> {
@@ -208,7 +213,19 @@ fn q2d_the_order_of_33() {
     assert_eq!(told_by_both(&[other.clone(), broken.clone()]), another_name(1));
     assert_eq!(told_by_both(&[broken.clone(), other.clone()]), refused_with(1, 2));
     // Of one body: a name of no kind, then its reader, then another name.
-    for name in ["EB110315", "EI130315", "EC210315", "EC220315", "eb130315", "    0315", "EB13\u{7f}315"] {
+    for name in [
+        "EB110315",
+        "EI130315",
+        "EC130315",
+        "EC200315",
+        "EC230315",
+        "ED210315",
+        "ED220315",
+        "eb130315",
+        "ec210315",
+        "    0315",
+        "EB13\u{7f}315",
+    ] {
         let unknown = (name.to_string(), b"neither".to_vec());
         let known = name.starts_with("EB13");
         assert_eq!(told_by_both(&[unknown]), refused_with(1, if known { 2 } else { 1 }), "{name}");
@@ -389,23 +406,74 @@ fn q2j_repeated_names() {
 /// The reader is asked, so bodies too count what the centre refused; of the samples' results that is one.
 #[test]
 fn q3c_item_10_of_a_body() {
-    let with_count = |number: u64| {
-        let (name, file) = body("EB220315");
-        (name, put_in("EB22", &file, 4, 77, format!("{number:08}").as_bytes()))
-    };
-    for which in 0..3 {
-        for number in [0, 1, 2, 3, 99_999_999] {
-            let mut bodies = vec![body("EB130315"), body("EB210315")];
-            bodies.insert(which, with_count(number));
-            let wrong = refused(which as u64 + 1, answer(0, 6, 4, 10, "0000"));
-            assert_eq!(told_by_both(&bodies), if number == 1 { accepted() } else { wrong });
+    for kind in ["EB22", "EC22"] {
+        let with_count = |number: u64| {
+            let (name, file) = body(&format!("{kind}0315"));
+            (name, put_in(kind, &file, 4, 77, format!("{number:08}").as_bytes()))
+        };
+        for which in 0..3 {
+            for number in [0, 1, 2, 3, 99_999_999] {
+                let mut bodies = vec![body("EB130315"), body("EB210315")];
+                bodies.insert(which, with_count(number));
+                let wrong = refused(which as u64 + 1, answer(0, 6, 4, 10, "0000"));
+                assert_eq!(told_by_both(&bodies), if number == 1 { accepted() } else { wrong });
+            }
         }
+        // Before another name, and before the next body.
+        let (_, file) = with_count(2);
+        let renamed = (format!("{kind}0316"), file);
+        let broken = ("EB210315".to_string(), vec![]);
+        assert_eq!(told_by_both(&[renamed, broken]), refused(1, answer(0, 6, 4, 10, "0000")));
     }
-    // Before another name, and before the next body.
-    let (_, file) = with_count(2);
-    let renamed = ("EB220316".to_string(), file);
-    let broken = ("EB210315".to_string(), vec![]);
-    assert_eq!(told_by_both(&[renamed, broken]), refused(1, answer(0, 6, 4, 10, "0000")));
+}
+
+#[test]
+fn q4f_same_day_debits_go_in() {
+    assert_eq!(day_read(&day(&six())), (accepted(), 6));
+    assert_eq!(told_by_both(&six()), accepted());
+    // Alone, beside the next day's and in any order; names that differ in the kind are two.
+    for names in [
+        &["EC210315"][..],
+        &["EC220315"],
+        &["EC210315", "EB210315"],
+        &["EB220315", "EC220315"],
+        &["EC220315", "EC210315", "EC210316"],
+        // A day file asks for no pairs.
+        &["EC210315", "EB220315"],
+    ] {
+        let bodies: Vec<Body> = names.iter().map(|name| body(name)).collect();
+        assert_eq!(told_by_both(&bodies), accepted(), "{names:?}");
+    }
+    let twice = [body("EC210315"), body("EB210315"), body("EC210315")];
+    assert_eq!(told_by_both(&twice), repeated(3));
+    // A debit under the name of every other: its header says another kind.
+    let debits = ["EB21", "EB22", "EC21", "EC22"];
+    for (name, kind) in debits.iter().flat_map(|name| debits.map(|kind| (*name, kind))) {
+        let told = told_by_both(&[body("EB130315"), (format!("{name}0315"), sample(kind))]);
+        assert_eq!(told, if name == kind { accepted() } else { another_name(2) }, "{kind} as {name}");
+    }
+    // An enrolment is of another length, or says another kind.
+    let [one, three] = [1, 3].map(|n| {
+        let bodies: Vec<Vec<u8>> = (0..n).map(|k| enrolment("1", &format!("P{k}"), "")).collect();
+        ("EC210315".to_string(), file("EB13", &bodies))
+    });
+    assert_eq!(told_by_both(&[one]), refused_with(1, 2));
+    assert_eq!(told_by_both(&[three]), another_name(1));
+    // The least amount goes by the kind.
+    for (kind, amount, debit_type, good) in [
+        ("EC21", 299, "0", false),
+        ("EC21", 300, "0", true),
+        ("EC21", 299, "1", true),
+        ("EC21", 299, "2", false),
+        ("EC21", 140, "0", false),
+        ("EB21", 140, "0", true),
+        ("EB21", 139, "0", false),
+    ] {
+        let bodies = [debit(amount, debit_type, "A", "")];
+        let told = told_by_both(&[body("EB140315"), (format!("{kind}0315"), file(kind, &bodies))]);
+        let small = refused(2, answer(0, 4, 1, 13, "0075"));
+        assert_eq!(told, if good { accepted() } else { small }, "{kind} {amount} {debit_type}");
+    }
 }
 
 // --------------------------------------------------------- counts and numbers
@@ -432,29 +500,31 @@ fn every_number_of_bodies() {
 /// At every place, a body of each number that a body can be refused with.
 #[test]
 fn a_body_of_each_refusal() {
-    let good = file("EB21", &[debit(10_000, "0", "A", ""), debit(20_000, "2", "B", "")]);
     let long: Vec<Vec<u8>> = (0..431).map(|k| debit(1_000, "0", &format!("P{k}"), "")).collect();
-    let of = |number: u64| match number {
-        2 => (good[1..].to_vec(), answer(0, 2, 0, 0, "0000")),
-        3 => (file("EB21", &long), answer(0, 3, 0, 0, "0000")),
-        4 => (put_in("EB21", &good, 1, 115, b"\x01"), answer(0, 4, 1, 12, "0088")),
-        5 => (put_in("EB21", &good, 2, 9, b"9999999999"), answer(0, 5, 2, 3, "0000")),
-        6 => (put_in("EB21", &good, 3, 43, b"0000000030001"), answer(0, 6, 3, 7, "0000")),
-        7 => {
-            let twice = [debit(10_000, "0", "A", ""), debit(20_000, "2", "A", "")];
-            (file("EB21", &twice), answer(0, 7, 2, 11, "0000"))
+    let of = |kind: &str, number: u64| {
+        let good = file(kind, &[debit(10_000, "0", "A", ""), debit(20_000, "2", "B", "")]);
+        match number {
+            2 => (good[1..].to_vec(), answer(0, 2, 0, 0, "0000")),
+            3 => (file(kind, &long), answer(0, 3, 0, 0, "0000")),
+            4 => (put_in(kind, &good, 1, 115, b"\x01"), answer(0, 4, 1, 12, "0088")),
+            5 => (put_in(kind, &good, 2, 9, b"9999999999"), answer(0, 5, 2, 3, "0000")),
+            6 => (put_in(kind, &good, 3, 43, b"0000000030001"), answer(0, 6, 3, 7, "0000")),
+            7 => {
+                let twice = [debit(10_000, "0", "A", ""), debit(20_000, "2", "A", "")];
+                (file(kind, &twice), answer(0, 7, 2, 11, "0000"))
+            }
+            _ => (good, answer(0, 1, 0, 0, "0000")),
         }
-        _ => (good.clone(), answer(0, 1, 0, 0, "0000")),
     };
-    for number in 1..=7 {
-        let (broken, inner) = of(number);
+    for (kind, number) in ["EB21", "EC21"].into_iter().flat_map(|kind| (1..=7).map(move |n| (kind, n))) {
+        let (broken, inner) = of(kind, number);
         if number > 1 {
-            assert_eq!(read(self::number("EB21"), &broken), inner);
+            assert_eq!(read(self::number(kind), &broken), inner);
         }
-        let name = if number == 1 { "EB230315" } else { "EB210315" };
+        let name = if number == 1 { kind.replace("21", "230315") } else { format!("{kind}0315") };
         for at in 1..=16 {
             let mut bodies = many(16);
-            bodies[at - 1] = (name.to_string(), broken.clone());
+            bodies[at - 1] = (name.clone(), broken.clone());
             assert_eq!(told_by_both(&bodies), refused(at as u64, inner));
             // Whatever comes behind it.
             if at < 16 {
@@ -470,9 +540,10 @@ fn a_body_of_each_refusal() {
 /// What a byte of the contents becomes decides: nothing else than the one that is there is accepted.
 #[test]
 fn every_byte_of_the_contents() {
-    let bodies = [body("EB130315"), body("EB210315"), body("EB130316")];
+    let bodies = [body("EB130315"), body("EB210315"), body("EB130316"), body("EC220315")];
     let good = day(&bodies);
-    for at in 0..3 + 3 * 13 {
+    let known: [&[u8]; 6] = [b"EB13", b"EB14", b"EB21", b"EB22", b"EC21", b"EC22"];
+    for at in 0..3 + 4 * 13 {
         for byte in (0..=255).filter(|byte| *byte != good[at]) {
             let told = told(&put(&good, at, &[byte]));
             let digit = byte.is_ascii_digit();
@@ -488,9 +559,8 @@ fn every_byte_of_the_contents() {
                     let wanted = match &name[..] {
                         // What it becomes is the name of another body.
                         b"EB130316" | b"EB130315" => repeated(3),
-                        _ if name.starts_with(b"EB14") || name.starts_with(b"EB22") => another_name(which),
-                        _ if place < 4 => refused_with(which, 1),
-                        _ => another_name(which),
+                        _ if known.iter().any(|kind| name.starts_with(kind)) => another_name(which),
+                        _ => refused_with(which, 1),
                     };
                     assert_eq!(told, wanted, "{at} {byte}");
                 }
@@ -502,7 +572,7 @@ fn every_byte_of_the_contents() {
 /// A byte hex 01 anywhere in a body is what its reader says of it.
 #[test]
 fn every_byte_of_the_bodies() {
-    let bodies = four();
+    let bodies = six();
     for (before, (name, good)) in bodies.iter().enumerate() {
         for at in 0..good.len() {
             let mut changed = bodies.clone();
@@ -517,7 +587,7 @@ fn every_byte_of_the_bodies() {
 
 #[test]
 fn every_beginning_of_a_file() {
-    for bodies in [four(), many(16), many(1), vec![]] {
+    for bodies in [four(), six(), many(16), many(1), vec![]] {
         let file = day(&bodies);
         let start = 3 + 13 * bodies.len();
         for end in 0..file.len() {
@@ -591,7 +661,8 @@ fn taken_apart(file: &[u8]) -> Vec<Body> {
 
 #[test]
 fn both_round_trips() {
-    for bodies in [vec![], many(1), four(), many(15), many(16), vec![body("EB220315"), empty("EB220316")]] {
+    let two = vec![body("EB220315"), empty("EB220316")];
+    for bodies in [vec![], many(1), four(), six(), many(15), many(16), two] {
         // Written, then read: what was given.
         let room = 3 + bodies.len() * 13 + joined(&bodies).len();
         let (told, length, file) = written(&names(&bodies), &lengths(&bodies), &joined(&bodies), room);

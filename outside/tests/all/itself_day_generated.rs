@@ -101,7 +101,7 @@ fn own_answers(bodies: &[(&[u8], &[u8])]) -> Vec<Answer> {
 }
 
 fn own_answer(name: &[u8], bytes: &[u8]) -> Answer {
-    if ![&b"EB13"[..], b"EB14", b"EB21", b"EB22"].contains(&&name[..4]) {
+    if ![&b"EB13"[..], b"EB14", b"EB21", b"EB22", b"EC21", b"EC22"].contains(&&name[..4]) {
         return Answer::without_place(1);
     }
     let told = read(u32::from_be_bytes(name[..4].try_into().unwrap()), bytes);

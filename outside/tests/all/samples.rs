@@ -259,7 +259,7 @@ fn the_samples_are_many_enough() {
         let line = format!("refused 0 {told}");
         assert!(any(false, &|s| s.expected == line), "no file is told {line}");
     }
-    for kind in [Kind::EB13, Kind::EB21] {
+    for kind in [Kind::EB13, Kind::EB21, Kind::EC21] {
         let accepted = any(true, &|s| s.number == kind.number() && s.expected.starts_with("accepted"));
         assert!(accepted, "no accepted pair of {kind:?}");
     }
@@ -276,6 +276,25 @@ fn the_samples_are_many_enough() {
     ] {
         let line = format!("refused {told} 0000");
         assert!(any(true, &|s| s.expected == line), "no pair is told {line}");
+    }
+    // Where next-day and same-day debits part: the kind, the least amount, the base, and which files meet.
+    for (pair, kind, told) in [
+        (false, Kind::EB21, "4 1 13 0075"),
+        (false, Kind::EC21, "4 1 13 0075"),
+        (false, Kind::EB21, "5 0 4 0000"),
+        (false, Kind::EB22, "6 4 10 0000"),
+        (false, Kind::EC22, "6 4 10 0000"),
+        (true, Kind::EC21, "14 1 6 0000"),
+    ] {
+        let of_kind = |s: &Sample| s.number == kind.number() && s.expected == format!("refused 0 {told}");
+        assert!(any(pair, &of_kind), "{kind:?}: no sample is told {told}");
+    }
+    for (kind, side) in [(Kind::EB21, 2), (Kind::EC21, 1), (Kind::EC21, 2)] {
+        let line = format!("refused {side} 5 0 4 0000");
+        assert!(
+            any(true, &|s| s.number == kind.number() && s.expected == line),
+            "{kind:?}: no pair is told {line}"
+        );
     }
 }
 
@@ -325,7 +344,7 @@ fn the_samples_of_days_are_many_enough() {
         };
         assert!(days().any(of), "no body is refused with {number}");
     }
-    for bodies in [0, 2, 4, 16] {
+    for bodies in [0, 2, 4, 6, 16] {
         let accepted = |sample: &Sample| {
             sample.expected.starts_with("accepted") && sample.expected.matches('@').count() == bodies
         };
@@ -333,16 +352,20 @@ fn the_samples_of_days_are_many_enough() {
     }
 }
 
-/// The debits of a kind, by themselves, in pairs and in day files: data records and trailer of each whole file.
-fn debits<'a>(sample: &'a Sample, kind: &[u8; 4]) -> Vec<(&'a [u8], &'a [u8])> {
+/// The debits of these kinds, by themselves, in pairs and in day files: data records and trailer of each whole file.
+fn debits<'a>(sample: &'a Sample, kinds: [&[u8; 4]; 2]) -> Vec<(&'a [u8], &'a [u8])> {
     let files = match &sample.files {
         Files::Day(day) => gen::day_contents(day).into_iter().map(|place| &day[place.body]).collect(),
         files => files.all(),
     };
     let whole = |file: &&[u8]| file.len() >= 300 && file.len().is_multiple_of(150);
-    let of_kind =
-        files.into_iter().filter(whole).filter(|file| file.starts_with(b"H") && &file[19..23] == kind);
-    of_kind.map(|file| file[150..].split_at(file.len() - 300)).collect()
+    let named = |file: &&[u8]| file.starts_with(b"H") && kinds.iter().any(|kind| file[19..23] == kind[..]);
+    files
+        .into_iter()
+        .filter(whole)
+        .filter(named)
+        .map(|file| file[150..].split_at(file.len() - 300))
+        .collect()
 }
 
 /// What the rules leave open today is chosen so that a stricter reading would not refuse it.
@@ -350,7 +373,8 @@ fn debits<'a>(sample: &'a Sample, kind: &[u8; 4]) -> Vec<(&'a [u8], &'a [u8])> {
 fn the_samples_keep_stricter_rules_too() {
     let mut seen = [0, 0];
     for sample in samples() {
-        for record in debits(&sample, b"EB21").into_iter().flat_map(|(data, _)| data.chunks(150)) {
+        for record in debits(&sample, [b"EB21", b"EC21"]).into_iter().flat_map(|(data, _)| data.chunks(150))
+        {
             let passbook = &record[73..89];
             let kept = passbook[2..].iter().all(|b| b.is_ascii_alphanumeric() || *b == b' ' || *b < 0x20);
             assert!(passbook.starts_with(b"00") && kept, "passbook text of {}", sample.name);
@@ -363,10 +387,10 @@ fn the_samples_keep_stricter_rules_too() {
             }
         }
     }
-    assert!(seen[0] > 20 && seen[1] > 10, "{seen:?}");
+    assert!(seen[0] > 40 && seen[1] > 10, "{seen:?}");
 }
 
-/// Item 10 of an EB22 is the number of "N" records with a code of the centre, whatever else is wrong with the sample, but
+/// Item 10 of an EB22 or EC22 is the number of "N" records with a code of the centre, whatever else is wrong with the sample, but
 /// for those that are refused at item 10.
 #[test]
 fn the_samples_count_what_the_centre_refused() {
@@ -374,7 +398,7 @@ fn the_samples_count_what_the_centre_refused() {
     for sample in samples() {
         let refused_there = sample.expected.split(' ').rev().nth(1) == Some("10");
         for (data, trailer) in
-            debits(&sample, b"EB22").into_iter().filter(|(_, last)| last.starts_with(b"T"))
+            debits(&sample, [b"EB22", b"EC22"]).into_iter().filter(|(_, last)| last.starts_with(b"T"))
         {
             let centre = data.chunks(150).filter(|r| r[68] == b'N' && is_centre_code(&r[69..73])).count();
             let right = trailer[77..85] == *format!("{centre:08}").as_bytes();
@@ -383,7 +407,7 @@ fn the_samples_count_what_the_centre_refused() {
             seen[usize::from(right)] += 1;
         }
     }
-    assert!(seen[0] >= 4 && seen[1] > 10, "{seen:?}");
+    assert!(seen[0] >= 5 && seen[1] > 20, "{seen:?}");
 }
 
 /// Item 10 of every record of an accepted file that has evidence.

@@ -41,7 +41,8 @@ fn files(kind: Kind, draft: &Draft) -> Vec<(&'static str, u64, Vec<u8>)> {
         file
     };
     let last = good.len() - 2 * size;
-    let total = good.len() - size + if kind == Kind::EB22 { 84 } else { 34 };
+    let counts_centre = kind.is_debit() && !kind.is_request();
+    let total = good.len() - size + if counts_centre { 84 } else { 34 };
     vec![
         ("the last item is broken", 4, with(&|file| *file.last_mut().expect("a file") = 0x1f)),
         ("a record of another institution", 5, with(&|file| put(file, last + size + 9, b"9999999999"))),
@@ -88,7 +89,7 @@ fn results(pair: PairKind, request: &Draft, result: &Draft) -> Vec<(&'static str
             }),
         ),
     ];
-    if pair == PairKind::Debit {
+    if pair.is_debit() {
         let impossible = with(&|_, last| {
             let amount = asked(last)[item(6)].to_vec();
             let amount: u64 = String::from_utf8(amount).expect("digits").parse().expect("a number");
@@ -139,7 +140,7 @@ fn of_writing(kind: Kind, draft: &Draft) -> Vec<Case> {
         ("a byte is missing", 2, with(&|bodies| bodies.truncate(bodies.len() - 1))),
         ("a body too many", 3, with(&|other| other.extend(&bodies[..size]))),
     ];
-    if kind == Kind::EB21 {
+    if kind.is_debit() {
         let amount = gen::body_item(kind, 6);
         let too_much =
             with(&|bodies| bodies.chunks_mut(size).for_each(|body| body[amount.clone()].fill(b'9')));
@@ -185,7 +186,7 @@ fn of_two_files(pair: PairKind, request: &Draft, result: &Draft) -> Vec<Case> {
             let none = Call::outcome(number, &request, &result, MOST_RECORDS as u64 + 1);
             add("cms_outcome", format!("{input}, record {}", MOST_RECORDS + 1), 15, none);
         }
-        if pair == PairKind::Debit {
+        if pair == PairKind::NextDay {
             let text = outside::post(&request, &result);
             let lines = text.iter().filter(|&&byte| byte == b'\n').count();
             assert_eq!(lines > MOST_RECORDS, returned == 0, "a line for each request, and the sums");

@@ -4,7 +4,7 @@
 
 use outside::evidence::layout::MOST_BLOCKS;
 use outside::gen::{self, DayDraft, Draft, EvidenceDraft, NamedBody, Rng};
-use outside::layout::{Kind, PairKind};
+use outside::layout::{Family, Kind, PairKind};
 use outside::proved::{DayParts, EvidenceParts, Parts};
 use outside::{
     day_read, day_write, eight_of_day, evidence_read, evidence_write, linked, outcome, pair, read, six,
@@ -42,7 +42,8 @@ pub fn print() {
         Case { name: "read EB13", sizes: SIZES, measure: |rng, n| reading(rng, Kind::EB13, n) },
         Case { name: "read EB22", sizes: SIZES, measure: reading_results },
         Case { name: "write EB21", sizes: SIZES, measure: writing },
-        Case { name: "pair debit", sizes: SIZES, measure: pairing },
+        Case { name: "pair EB21", sizes: SIZES, measure: |rng, n| pairing(rng, PairKind::NextDay, n) },
+        Case { name: "pair EC21", sizes: SIZES, measure: |rng, n| pairing(rng, PairKind::SameDay, n) },
         Case { name: "outcome", sizes: SIZES, measure: asking },
         Case { name: "read EI13", sizes: EVIDENCE_SIZES, measure: reading_evidence },
         Case { name: "write EI13", sizes: EVIDENCE_SIZES, measure: writing_evidence },
@@ -89,12 +90,12 @@ fn request_of(rng: &mut Rng, kind: Kind, n: usize) -> Draft {
     };
     for (before, body) in draft.bodies.iter_mut().enumerate() {
         put(body, kind.pair().key_item(), format!("{:<20}", 2_024_000_001 + before).as_bytes());
-        match kind.pair() {
-            PairKind::Enrolment => {
+        match kind.family() {
+            Family::Enrolment => {
                 put(body, 5, b"1");
                 put(body, 9, b"8");
             }
-            PairKind::Debit => put(body, 12, b"     "),
+            Family::Debit => put(body, 12, b"     "),
         }
     }
     draft
@@ -149,10 +150,10 @@ fn refused(request: &Draft, one_in: usize, told: &[u8; 5]) -> Draft {
     result
 }
 
-fn pairing(rng: &mut Rng, n: usize) -> [f64; 3] {
-    let request = request_of(rng, Kind::EB21, n);
+fn pairing(rng: &mut Rng, kinds: PairKind, n: usize) -> [f64; 3] {
+    let request = request_of(rng, kinds.request(), n);
     let (request, result) = (request.file(), refused(&request, 2, b"N0021").file());
-    let kind = Kind::EB21.number();
+    let kind = kinds.number();
     let [mut taken, mut not_taken, mut ones, mut others] = [(); 4].map(|()| vec![0; n]);
     let told = linked::pair(kind, &request, &result, &mut taken, &mut not_taken);
     assert_eq!(told, pair(kind, &request, &result, &mut ones, &mut others).five());
@@ -216,10 +217,10 @@ fn writing_evidence(rng: &mut Rng, n: usize) -> [f64; 3] {
     ])
 }
 
-/// A day of four files, the requests and their results, that have so many records together.
+/// A day of four files, enrolments and next-day debits with their results, that have so many records together.
 fn day_of(rng: &mut Rng, n: usize) -> DayDraft {
     let mut day = DayDraft::default();
-    for pair in PairKind::ALL {
+    for pair in [PairKind::Enrolment, PairKind::NextDay] {
         let request = request_of(rng, pair.request(), n / 4);
         for draft in [&request, &refused(&request, 1, b"N0021")] {
             day.bodies.push(NamedBody { name: gen::name_of(draft), file: draft.file() });
