@@ -54,8 +54,8 @@ extern "C" {
  * every request. And every function that reads an EB22 refuses one, with 6, whose trailer item 10 is not the number of "N"
  * records with a code of the centre; before, any digits did. 4: kinds EC21 and EC22 and the pair kind EC21 came: every
  * function that takes a kind or a pair takes them as it takes EB21 and EB22, and day files hold them; before, they were
- * 1. No function changed its parameters. */
-#define CMS_FACE 4
+ * 1. No function changed its parameters. 5: nothing that can be seen from here changed, neither a function nor an answer. */
+#define CMS_FACE 5
 
 #define CMS_EB13 UINT32_C(0x45423133)
 #define CMS_EB14 UINT32_C(0x45423134)

@@ -1,9 +1,8 @@
 -- Which amounts of a request and its result are possible.
-use Prim.Native.Nat.{ℕ, _-_}
+use Prim.Native.Nat.{ℕ, _-_, _*_}
 use mathlib.Core.Bool.{Bool, cond, _&&_}
-use mathlib.Core.List.{List, [], _∷_}
+use mathlib.Core.List.{List}
 use lib.Dec.{leb, ltb, eqb}
-use lib.ListN.{getD}
 use Rattle.answers.specs.declared.told.Answer.{Answer}
 use Rattle.answers.specs.Answers.{accepted, refusedAt}
 use Rattle.layout.specs.Items.{amountOf, markOf, typeOf}
@@ -21,13 +20,10 @@ asksIn Debit = Amounts
 abbrev pub asks : PairKind → Quantity
 asks p = asksIn (p .family)
 
--- the least that a part payment may take, for types "1" to "6"; type "1" takes none
-unfoldable pub bases : List ℕ
-bases = 0 ∷ 1000 ∷ 2000 ∷ 3000 ∷ 4000 ∷ 5000 ∷ []
-
--- the base of a type; that of "0" is the least amount that may be asked
+-- the base of a type, which is the least that a part payment takes: of "0" the least amount that may be asked, of the others a
+-- thousand won for each step above type "1"
 unfoldable pub baseOf : ℕ → ℕ → ℕ
-baseOf least type = cond (eqb type 0x30) least (getD bases (type - 0x31) 0)
+baseOf least type = cond (eqb type 0x30) least ((type - 0x31) * 1000)
 
 -- "N": all of the a won was not taken; else u of them, fewer than a, and what was taken reaches the base
 unfoldable pub possible : ℕ → ℕ → ℕ → ℕ → ℕ → Bool

@@ -9,23 +9,17 @@ use kinds::of_pairs::PairKind;
 use layout::items;
 use text::parts;
 
-// The least that a part payment may take, for types "1" to "6"; type "1" takes none.
-const BASES: [u64; 6] = [0, 1000, 2000, 3000, 4000, 5000];
-
-// The base of a type; that of "0" is the least amount that may be asked.
+// The base of a type: of "0" the least amount that may be asked, of the others a thousand won for each step above type "1".
 fn base(least: u64, debit_type: u8) -> u64
     ensures { λ r. ⌜ r ≡ baseOf least «debit_type» ⌝ }
 {
     if debit_type == b'0' {
         return least;
     }
-    if debit_type <= b'1' {
+    if debit_type < b'1' {
         return 0;
     }
-    if b'6' < debit_type {
-        return 0;
-    }
-    BASES[(debit_type - b'1') as usize]
+    (debit_type - b'1') as u64 * 1000
 }
 
 // Whether u won of a can be what was not taken.

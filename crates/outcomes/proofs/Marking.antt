@@ -28,7 +28,7 @@ use Rattle.reader.specs.Reading.{isWhole, lengthTells, readAs, readOf}
 use Rattle.reader.specs.Samples.{all, code, letters, headerRest, headerFor, trailerFor, noTotals, emptyOn}
 use Rattle.kinds.specs.Pairs.{pairs, pairFrom, requestIs, pairOf}
 use Rattle.agreement.specs.Items.{headerItems, agrees, itemTells, itemsTell}
-use Rattle.agreement.specs.Amounts.{bases, baseOf, possible, partOfOne, debitTells}
+use Rattle.agreement.specs.Amounts.{baseOf, possible, partOfOne, debitTells}
 use Rattle.agreement.specs.Meeting.{meetsTell, headersTell}
 use Rattle.agreement.specs.Marks.{markIn, codeIn}
 use Rattle.matching.specs.Matching.{hasKey, placeOf, requestFor, resultFor}
@@ -40,5 +40,5 @@ use Rattle.outcomes.specs.Samples.{account, payer, passbook, recordFor, 
 use Rattle.outcomes.specs.Marked.{Case, ofFile, ofSized, ofRecord, ofDay, request, ofPair, ofRequest, brokenAccount, cases}
 
 pub marked-cases : map (λ (c : Case). c .said) cases ≡ map (λ (c : Case). c .paper) cases
-unfolding least further some none part differ same sum within takes stopsAt front each digits spaces zeros codeText filled digitOf valueTo valueOf digitsOf says wordOf monthDays leapDay daysOf hasDay isDate kindOf kindFrom kinds nameIs tabulate letterOf bankCodes centreCodes tableCodes codeIs placeAmong isAmong makerOf headerFront debitHeader dataFront debitData debitRequestData debitResultData trailerFront debitRequestTrailer debitResultTrailer debitRequestTotals debitResultTotals among itemsBut debitCopied refuses _then_ refusesAt toldAt firstTold institution failed partly enough meets holds rowTells judgeBy judgeOf recordAt countOf roleOf judgedAt recordsTell worth worthAt quantityOf totalHolds totalTells totalsTell keyAt repeats repeatTold keysTell isWhole lengthTells readAs readOf all code letters headerRest headerFor trailerFor noTotals emptyOn pairOf pairFrom pairs requestIs headerItems agrees itemTells itemsTell hasKey placeOf requestFor resultFor bases baseOf possible partOfOne debitTells askedAt notTakenBy notTakenAt takenAt meetsTell resultTells resultsTell headersTell roomTells pairBy listsFit pairAs pairTold markIn codeIn failedBy outcomeAt asksFor outcomeAs outcomeTold account payer passbook recordFor requestTotals requestFile resultOf marked resultTotals resultFile ofFile ofSized ofRecord ofDay request ofPair ofRequest brokenAccount cases
+unfolding least further some none part differ same sum within takes stopsAt front each digits spaces zeros codeText filled digitOf valueTo valueOf digitsOf says wordOf monthDays leapDay daysOf hasDay isDate kindOf kindFrom kinds nameIs tabulate letterOf bankCodes centreCodes tableCodes codeIs placeAmong isAmong makerOf headerFront debitHeader dataFront debitData debitRequestData debitResultData trailerFront debitRequestTrailer debitResultTrailer debitRequestTotals debitResultTotals among itemsBut debitCopied refuses _then_ refusesAt toldAt firstTold institution failed partly enough meets holds rowTells judgeBy judgeOf recordAt countOf roleOf judgedAt recordsTell worth worthAt quantityOf totalHolds totalTells totalsTell keyAt repeats repeatTold keysTell isWhole lengthTells readAs readOf all code letters headerRest headerFor trailerFor noTotals emptyOn pairOf pairFrom pairs requestIs headerItems agrees itemTells itemsTell hasKey placeOf requestFor resultFor baseOf possible partOfOne debitTells askedAt notTakenBy notTakenAt takenAt meetsTell resultTells resultsTell headersTell roomTells pairBy listsFit pairAs pairTold markIn codeIn failedBy outcomeAt asksFor outcomeAs outcomeTold account payer passbook recordFor requestTotals requestFile resultOf marked resultTotals resultFile ofFile ofSized ofRecord ofDay request ofPair ofRequest brokenAccount cases
 marked-cases = refl
