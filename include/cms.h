@@ -15,8 +15,8 @@
  * 16), for each its name (8 bytes) and its length (five digits), and then the bodies in that order, with nothing between
  * or behind them. No two names are the same, and each is item 4 of its body's header.
  *
- * Every function takes any number, any bytes and any length. All but cms_post return the refusal's number, 0 when
- * accepted, and store an answer. But for day files it begins with five numbers:
+ * Every function takes any number, any bytes and any length. All but cms_post and cms_part return the refusal's number, 0
+ * when accepted, and store an answer. But for day files it begins with five numbers:
  *   answer[0] side    0 one file, or two as they meet; 1, 2 when the first or the second of two is refused by reading:
  *                     a request or its result, enrolments or their evidence
  *   answer[1] number  what was returned
@@ -27,17 +27,19 @@
  *   answer[0] number  what was returned
  *   answer[1] body    which one, from 1, of numbers 32 and 33; else 0
  *   answer[2] to [6]  of number 33 the five that the body is told by itself; else 0, 0, 0, 0 and "0000"
- * A refusal leaves all other lent memory as it was.
+ * A refusal leaves all other lent memory as it was, but for the state of a file that arrives: cms_end marks it as ended,
+ * whatever it answers.
  * No function needs more than 64 KB of stack.
  *
  * Numbers: 1 kind or pair unknown, 2 not whole records (evidence: blocks) or fewer than two, or in writing a part of
  * another length or cut short, 3 more than 430 data records (evidence: or more than 4,096 data blocks), 4 an item breaks
  * its rule, 5 an item disagrees with the kind or header, 6 a count or sum is wrong, 7 the key of an earlier record, 8 lent
- * room is too short, 12 the headers of two files differ, 13 a result without a request or with a copied item that
- * differs, 14 an impossible amount, 15 no such request, 20 an enrolment without evidence, 21 evidence without an
- * enrolment, 30 the form byte, the count, a length or the size of a day file's contents is wrong, 31 its bodies are not as
- * long as the contents say, 32 the name of an earlier body, 33 a body is refused: as cms_read refuses it, or with 1 where
- * its name says no kind that goes in, or last with 5 at record 0, item 4, where its header has another name. */
+ * room is too short, 9 a part or an end after the end, 12 the headers of two files differ, 13 a result without a request or
+ * with a copied item that differs, 14 an impossible amount, 15 no such request, 20 an enrolment without evidence, 21
+ * evidence without an enrolment, 30 the form byte, the count, a length or the size of a day file's contents is wrong, 31
+ * its bodies are not as long as the contents say, 32 the name of an earlier body, 33 a body is refused: as cms_read refuses
+ * it, or with 1 where its name says no kind that goes in, or last with 5 at record 0, item 4, where its header has another
+ * name. */
 #ifndef CMS_H
 #define CMS_H
 
@@ -54,8 +56,9 @@ extern "C" {
  * every request. And every function that reads an EB22 refuses one, with 6, whose trailer item 10 is not the number of "N"
  * records with a code of the centre; before, any digits did. 4: kinds EC21 and EC22 and the pair kind EC21 came: every
  * function that takes a kind or a pair takes them as it takes EB21 and EB22, and day files hold them; before, they were
- * 1. No function changed its parameters. 5: nothing that can be seen from here changed, neither a function nor an answer. */
-#define CMS_FACE 5
+ * 1. No function changed its parameters. 5: nothing that can be seen from here changed, neither a function nor an answer. 6:
+ * cms_part and cms_end came, and no other function changed. */
+#define CMS_FACE 6
 
 #define CMS_EB13 UINT32_C(0x45423133)
 #define CMS_EB14 UINT32_C(0x45423134)
@@ -63,6 +66,12 @@ extern "C" {
 #define CMS_EB22 UINT32_C(0x45423232)
 #define CMS_EC21 UINT32_C(0x45433231)
 #define CMS_EC22 UINT32_C(0x45433232)
+
+/* The longest file of any of these kinds, in bytes. A room of that size never gets 8 from cms_end. */
+#define CMS_LONGEST 64800
+
+/* What cms_part returns for a part that it took. It says nothing of the file. */
+#define CMS_MORE 10
 
 /* Reads the file as one of the kind. */
 uint64_t cms_read(uint32_t kind, const uint8_t *file, size_t file_length, uint64_t answer[5]);
@@ -107,6 +116,19 @@ uint64_t cms_outcome(uint32_t pair, const uint8_t *request, size_t request_lengt
  *   answer[6] start   the record's first byte in the file; 0 unless the case is 1
  *   answer[7] length  its length; 0 unless the case is 1 */
 uint64_t cms_walk(uint32_t kind, const uint8_t *file, size_t file_length, uint64_t place, uint64_t answer[8]);
+
+/* Takes a file while it arrives, in parts cut anywhere, some with no bytes: a state of {0, 0}, one cms_part for each piece,
+ * one cms_end. The part goes into the room behind those before it, as far as it fits, and bytes past it are unchanged.
+ * Returns CMS_MORE, whatever the part holds; or 9, with nothing changed, after the end. There is no answer.
+ * The state is {0, 0} before the first part and the library's own afterwards; the room is the same one in every call of one
+ * file. Any other state or room does no harm. Nothing that the room holds may be used before an accepted end. */
+uint64_t cms_part(uint64_t state[2], uint8_t *room, size_t room_length, const uint8_t *part, size_t part_length);
+
+/* Ends a file that arrived in parts, as one of the kind. It answers as cms_read of the parts joined, however they were cut;
+ * but where the room was too short for a file that is not too long, it answers 8, after 1, 2 and 3 and before the records
+ * are looked at. After the end it answers 9 each time, with nothing else changed; every other answer marks the state as
+ * ended. The room is unchanged, whatever the answer. On success its first state[0] bytes are the file. */
+uint64_t cms_end(uint32_t kind, uint64_t state[2], uint8_t *room, size_t room_length, uint64_t answer[5]);
 
 /* What the posting program prints for a next-day debit request and its result (a missing file is one of no bytes; one
  * over 64,800 bytes is refusal 3 on its side, before all else). They are EB21 and EB22: another kind is refused as

@@ -20,7 +20,7 @@
 
 enum { READ, WRITE, PAIR, OUTCOME, WALK, POST, APART, TOUCH, DIG, PAINTED,
        EVIDENCE_READ, EVIDENCE_PART, EVIDENCE_WRITE, EVIDENCE_COMPARE,
-       DAY_READ, DAY_BODY, DAY_WRITE };
+       DAY_READ, DAY_BODY, DAY_WRITE, PART, END, ARRIVE };
 
 #define THERE UINT64_C(0x636d735f66616365)
 
@@ -159,7 +159,8 @@ static uint64_t changed(void) {
     return 0;
 }
 
-/* ---- calls: each is a function of the library with what was lent, in the order of its parameters, and a number or two */
+/* ---- calls: each is a function of the library with what was lent, in the order of its parameters, and a number or two;
+ * but ARRIVE is some calls of two functions */
 
 typedef uint64_t (*function)(void);
 
@@ -189,6 +190,21 @@ static uint64_t call_evidence_compare(void) { return cms_evidence_compare(kind, 
 static uint64_t call_day_read(void) { return cms_day_read(BYTES(0), NUMBERS(1)); }
 static uint64_t call_day_body(void) { return cms_day_body(BYTES(0), given, NUMBERS(1)); }
 static uint64_t call_day_write(void) { return cms_day_write(BYTES(0), LIST(1), BYTES(2), BYTES(3), NUMBERS(4)); }
+static uint64_t call_part(void) { return cms_part(NUMBERS(0), BYTES(1), BYTES(2)); }
+static uint64_t call_end(void) { return cms_end(kind, NUMBERS(0), BYTES(1), NUMBERS(2)); }
+
+/* A whole arrival with nothing lent anew on the way: parts of the file as long as the list says, each with what it returned
+ * and the state behind it, and then the end. */
+static uint64_t call_arrive(void) {
+    uint64_t *state = NUMBERS(0), *lengths = NUMBERS(3), *said = NUMBERS(4);
+    const uint8_t *part = lent[2].start;
+    for (size_t i = 0; i < lent[3].length / sizeof(uint64_t); part += lengths[i], i++, said += 3) {
+        said[0] = cms_part(state, BYTES(1), part, lengths[i]);
+        said[1] = state[0];
+        said[2] = state[1];
+    }
+    return cms_end(kind, state, BYTES(1), NUMBERS(5));
+}
 
 /* Tries the watch: reads the byte at a place from a slice's start, and writes it when told a number. */
 static uint64_t call_touch(void) {
@@ -206,7 +222,10 @@ static uint64_t call_dig(void) {
 }
 
 /* The first parameter is a kind, pair or profile. */
-static int is_by_kind(uint64_t which) { return which != POST && which != TOUCH && which != DIG && which < DAY_READ; }
+static int is_by_kind(uint64_t which) {
+    if (which == END || which == ARRIVE) return 1;
+    return which != POST && which != TOUCH && which != DIG && which < DAY_READ;
+}
 
 /* Lends what the call says, and tells what is to be called with it. */
 static function prepared(uint64_t which) {
@@ -235,6 +254,11 @@ static function prepared(uint64_t which) {
         for (int i = 0; i < 3; i++) slice();
         to_write(slice()); an_answer(8);
         return call_day_write;
+    case PART: to_write(slice()); to_write(slice()); slice(); return call_part;
+    case END: to_write(slice()); to_write(slice()); an_answer(5); return call_end;
+    case ARRIVE:
+        to_write(slice()); to_write(slice()); slice(); slice(); to_write(slice()); an_answer(5);
+        return call_arrive;
     case TOUCH: slice(); given = number(); also = number(); return call_touch;
     case DIG: given = number(); return call_dig;
     default: fail("the bridge was asked for a function that it does not know\n"); return NULL;

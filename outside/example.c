@@ -1,4 +1,5 @@
 /* Reads a file as one of a kind and prints what is told of it: example EB21 FILE
+ * The same with the file taken in two parts, as one that still arrives: example PARTS EB21 FILE
  * Of consent evidence it also prints where each lies, as record, first byte and length: example EI13 FILE
  * Of a day file it also prints where each body lies, as body, name, first byte and length: example DAY FILE
  * Compares enrolments with the evidence for them: example EB13 FILE EI13 FILE */
@@ -42,11 +43,26 @@ static int print(uint64_t number, const uint64_t *answer, int before_code) {
 
 static int print_five(const uint64_t answer[5]) { return print(answer[1], answer, 4); }
 
-static int read_kind(const char *letters) {
+static uint32_t kind_of(const char *letters) {
     uint32_t kind = 0;
     for (int i = 0; i < 4; i++) kind = kind << 8 | (unsigned char)letters[i];
+    return kind;
+}
+
+static int read_kind(const char *letters) {
     uint64_t answer[5];
-    cms_read(kind, one.bytes, one.length, answer);
+    cms_read(kind_of(letters), one.bytes, one.length, answer);
+    return print_five(answer);
+}
+
+static int read_parts(const char *letters) {
+    static uint8_t room[CMS_LONGEST];
+    uint64_t state[2] = {0, 0}, answer[5];
+    size_t half = one.length / 2;
+    /* Nothing is known of the file before the end. */
+    if (cms_part(state, room, sizeof room, one.bytes, half) != CMS_MORE) return 2;
+    if (cms_part(state, room, sizeof room, one.bytes + half, one.length - half) != CMS_MORE) return 2;
+    cms_end(kind_of(letters), state, room, sizeof room, answer);
     return print_five(answer);
 }
 
@@ -81,12 +97,14 @@ static int read_day(void) {
 
 int main(int count, char **words) {
     if (count == 3 && strcmp(words[1], "DAY") == 0 && take(words[2], &one)) return read_day();
+    if (count == 4 && strcmp(words[1], "PARTS") == 0 && strlen(words[2]) == 4 && take(words[3], &one))
+        return read_parts(words[2]);
     if (count == 3 && strlen(words[1]) == 4 && take(words[2], &one))
         return strcmp(words[1], "EI13") == 0 ? read_evidence() : read_kind(words[1]);
     if (count == 5 && strcmp(words[1], "EB13") == 0 && strcmp(words[3], "EI13") == 0 && take(words[2], &one) &&
         take(words[4], &other))
         return compare();
-    fputs("usage: example KIND FILE, example DAY FILE, or example EB13 FILE EI13 FILE;\n"
+    fputs("usage: example KIND FILE, example PARTS KIND FILE, example DAY FILE, or example EB13 FILE EI13 FILE;\n"
           "files of no more than 4,098 KB that can be read\n",
           stderr);
     return 2;

@@ -24,9 +24,17 @@ pub enum Operation {
     EvidencePart(Profile),
     EvidenceWrite(Profile),
     EvidenceCompare(Profile),
+    /// A part of a file that arrives.
+    Part,
+    /// The end of one.
+    End(Option<Kind>),
 }
 
 impl Operation {
+    pub fn is_of_arrival(&self) -> bool {
+        matches!(self, Operation::Part | Operation::End(_))
+    }
+
     pub fn is_of_evidence(&self) -> bool {
         use Operation::*;
         matches!(self, EvidenceRead(_) | EvidencePart(_) | EvidenceWrite(_) | EvidenceCompare(_))
@@ -176,6 +184,12 @@ pub fn all() -> Vec<Entry> {
     for profile in Profile::ALL {
         list.evidence(profile);
     }
+    list.placeless(Operation::Part, 0, &[9, 10]);
+    for kind in Kind::ALL {
+        list.placeless(Operation::End(Some(kind)), 0, &[0, 2, 3, 8, 9]);
+        list.reading(Operation::End(Some(kind)), 0, kind);
+    }
+    list.placeless(Operation::End(None), 0, &[1, 9]);
     list.0
 }
 
@@ -275,7 +289,7 @@ impl List {
 /// answer points into.
 pub fn entry(operation: Operation, answer: &Answer, n: u64) -> Entry {
     let part = match (answer.number, answer.record) {
-        (0..=3 | 8 | 15, 0) => Part::None,
+        (0..=3 | 8..=10 | 15, 0) => Part::None,
         (4..=7 | 12..=14, 0) => Part::Header,
         (_, record) if record <= n => Part::Data,
         (_, record) if record == n + 1 => Part::Trailer,

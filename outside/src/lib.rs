@@ -19,7 +19,8 @@
 //! * [`walk`](mod@walk): record k + 1 of a file, or the end;
 //! * [`post`](mod@post): the posting program's output;
 //! * [`evidence`]: consent evidence is read, written, and compared with enrolments;
-//! * [`day`]: a day file is read, asked for its bodies, and written.
+//! * [`day`]: a day file is read, asked for its bodies, and written;
+//! * [`arrival`]: a file is read while it arrives, part by part.
 //!
 //! For the comparison:
 //!
@@ -33,6 +34,7 @@
 //! * [`settings`]: seed and count, from the environment.
 
 pub mod apart;
+pub mod arrival;
 pub mod bridge;
 pub mod chars;
 mod checked;
@@ -55,6 +57,7 @@ pub mod walk;
 pub mod write;
 
 pub use apart::apart;
+pub use arrival::{end_at, part_at, Arrival};
 pub use day::{day_body, day_read, day_write};
 pub use evidence::{evidence_compare, evidence_part, evidence_read, evidence_write};
 pub use model::{

@@ -67,6 +67,14 @@ extern "C" {
         room_length: usize,
         answer: *mut u64,
     ) -> u64;
+    fn cms_part(
+        state: *mut u64,
+        room: *mut u8,
+        room_length: usize,
+        part: *const u8,
+        part_length: usize,
+    ) -> u64;
+    fn cms_end(kind: u32, state: *mut u64, room: *mut u8, room_length: usize, answer: *mut u64) -> u64;
 }
 
 pub fn read(kind: u32, file: &[u8]) -> [u64; 5] {
@@ -193,5 +201,17 @@ pub fn day_write(parts: &DayParts, room: &mut [u8]) -> [u64; 8] {
             answer.as_mut_ptr(),
         )
     };
+    answer
+}
+
+pub fn part(state: &mut [u64; 2], room: &mut [u8], part: &[u8]) -> u64 {
+    // Safe: each pointer is good for the length that stands beside it, till the call returns; a state has two numbers.
+    unsafe { cms_part(state.as_mut_ptr(), room.as_mut_ptr(), room.len(), part.as_ptr(), part.len()) }
+}
+
+pub fn end(kind: u32, state: &mut [u64; 2], room: &mut [u8]) -> [u64; 5] {
+    let mut answer = [0; 5];
+    // Safe: each pointer is good for the length that stands beside it, till the call returns; a state has two numbers.
+    unsafe { cms_end(kind, state.as_mut_ptr(), room.as_mut_ptr(), room.len(), answer.as_mut_ptr()) };
     answer
 }

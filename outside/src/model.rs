@@ -28,7 +28,7 @@ impl Answer {
         Answer::without_place(0)
     }
 
-    /// A number that has no place: 1, 2, 3, 8, 15.
+    /// A number that has no place: 1, 2, 3, 8, 9, 15.
     pub fn without_place(number: u64) -> Answer {
         Answer::placed(number, 0, 0)
     }

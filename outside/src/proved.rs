@@ -36,6 +36,13 @@ const DAY_BODY: Function = Function { number: 15, lent: &["the file", "the answe
 const DAY_WRITE: Function =
     Function { number: 16, lent: &["the names", "the lengths", "the bodies", "the room", "the answer"] };
 
+const PART: Function = Function { number: 17, lent: &["the state", "the room", "the part"] };
+const END: Function = Function { number: 18, lent: &["the state", "the room", "the answer"] };
+const ARRIVE: Function = Function {
+    number: 19,
+    lent: &["the state", "the room", "the file", "the lengths", "what is said of the parts", "the answer"],
+};
+
 /// What a file is written from.
 #[derive(Clone, Copy)]
 pub struct Parts<'a> {
@@ -127,6 +134,28 @@ impl Call {
     }
 }
 
+impl Call {
+    pub fn part(state: &[u64; 2], room: &[u8], part: &[u8]) -> Call {
+        Call::of(&PART).list(state).room(room).slice(part)
+    }
+
+    pub fn end(kind: u32, state: &[u64; 2], room: &[u8]) -> Call {
+        Call::of(&END).number(kind.into()).list(state).room(room).answer(5)
+    }
+
+    /// A whole arrival, from its beginning to its end, by parts of these lengths, which are the file together. After the
+    /// room there are three numbers for each part: what was returned, and the state.
+    pub fn arrive(kind: u32, room: &[u8], file: &[u8], lengths: &[u64]) -> Call {
+        let total: u64 = lengths.iter().sum();
+        assert_eq!(total, file.len() as u64, "the parts are the file");
+        let lent = Call::of(&ARRIVE).number(kind.into()).list(&[0, 0]).room(room).slice(file);
+        lent.numbers(lengths).list(&vec![UNSAID; 3 * lengths.len()]).answer(5)
+    }
+}
+
+/// A number that no part gives, and no state has.
+const UNSAID: u64 = 0xfeed_face_cafe_0000;
+
 /// The answer of the proved reader: side, number, record, item, code.
 pub fn read(kind: u32, file: &[u8]) -> [u64; 5] {
     kept(ask(&Call::read(kind, file)).and_then(|said| told(&said)))
@@ -216,6 +245,27 @@ pub fn day_write(parts: &DayParts, room: &mut [u8]) -> [u64; 8] {
     let said = kept(ask(&Call::day_write(parts, room)));
     room.copy_from_slice(&said.written[..room.len()]);
     kept(day_told(&said))
+}
+
+/// What was returned for a part, which changes the state and the room as the face says.
+pub fn part(state: &mut [u64; 2], room: &mut [u8], part: &[u8]) -> u64 {
+    let said = kept(ask(&Call::part(state, room, part)));
+    take_arrival(&said, state, room);
+    said.returned
+}
+
+/// The answer of the proved end, which changes the state as its face says, and no room.
+pub fn end(kind: u32, state: &mut [u64; 2], room: &mut [u8]) -> [u64; 5] {
+    let said = kept(ask(&Call::end(kind, state, room)));
+    take_arrival(&said, state, room);
+    kept(told(&said))
+}
+
+/// State and room, which come first.
+fn take_arrival(said: &Said, state: &mut [u64; 2], room: &mut [u8]) {
+    let (numbers, rest) = said.written.split_at(16);
+    *state = Said::new(0).bytes(numbers).as_numbers().try_into().expect("a state has two numbers");
+    room.copy_from_slice(&rest[..room.len()]);
 }
 
 /// The numbers of an answer, which is lent last: the second of them was returned, too.

@@ -40,13 +40,8 @@ pub fn open(kind: u32, file: &[u8]) -> Result<Records<'_>, Answer> {
 /// Whole records, at least two, not too many: first the header, last the
 /// trailer, and all between are data records.
 fn take_apart(kind: Kind, file: &[u8]) -> Result<Records<'_>, Answer> {
+    check_length(kind, file.len())?;
     let length = kind.record_length();
-    if !file.len().is_multiple_of(length) || file.len() < 2 * length {
-        return Err(Answer::without_place(2));
-    }
-    if file.len() / length - 2 > MOST_RECORDS {
-        return Err(Answer::without_place(3));
-    }
     let (header, rest) = file.split_at(length);
     let (data, trailer) = rest.split_at(rest.len() - length);
     Ok(Records {
@@ -55,6 +50,18 @@ fn take_apart(kind: Kind, file: &[u8]) -> Result<Records<'_>, Answer> {
         data: data.chunks_exact(length).map(|bytes| Record::new(bytes, kind.data())).collect(),
         trailer: Record::new(trailer, kind.trailer()),
     })
+}
+
+/// Numbers 2 and 3, by the length alone.
+pub fn check_length(kind: Kind, bytes: usize) -> Result<(), Answer> {
+    let length = kind.record_length();
+    if !bytes.is_multiple_of(length) || bytes < 2 * length {
+        return Err(Answer::without_place(2));
+    }
+    if bytes / length - 2 > MOST_RECORDS {
+        return Err(Answer::without_place(3));
+    }
+    Ok(())
 }
 
 /// Numbers 4 and 5, as met.

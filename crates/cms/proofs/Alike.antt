@@ -11,6 +11,8 @@ use Rattle.cms.proofs.write.cms_write.Reads as write
 use Rattle.cms.proofs.pairs.cms_pair.Reads as pair
 use Rattle.cms.proofs.pairs.cms_outcome.Reads as outcome
 use Rattle.cms.proofs.walk.cms_walk.Reads as walk
+use Rattle.cms.proofs.arrive.cms_part.Reads as part
+use Rattle.cms.proofs.arrive.cms_end.Reads as ending
 use Rattle.cms.proofs.post.cms_post.Reads as post
 use Rattle.cms.proofs.taking.cms_apart.Reads as apart
 use Rattle.cms.proofs.of_evidence.cms_evidence_read.Reads as evidence-read
@@ -65,6 +67,12 @@ outcome-alike = alike outcome.Post _ _ (λ κ x r s p. p .0 with p .1 also end)
 
 pub walk-alike : Alike walk.Post (λ κ r s. sees r (now (s .1 .1 .1 .0) ∷ []))
 walk-alike = alike walk.Post _ _ (λ κ x r s p. p .0 with p .1 also end)
+
+pub part-alike : Alike part.Post (λ κ r s. sees r (now (s .0) ∷ now (s .1 .0) ∷ []))
+part-alike = alike part.Post _ _ (λ κ x r s p. p .0 with p .1 .0 also p .1 .1 also end)
+
+pub end-alike : Alike ending.Post (λ κ r s. sees r (now (s .1 .0) ∷ now (s .1 .1 .0) ∷ now (s .1 .1 .1 .0) ∷ []))
+end-alike = alike ending.Post _ _ (λ κ x r s p. p .0 with p .1 .0 also p .1 .1 .0 also p .1 .1 .1 also end)
 
 pub post-alike : Alike post.Post (λ κ r s. sees r (now (s .1 .1 .0) ∷ []))
 post-alike = alike post.Post _ _ (λ κ x r s p. p .0 with p .1 also end)

@@ -5,6 +5,7 @@ use mathlib.Core.Path.{_≡_, refl}
 use Rattle.laws.specs.Least.{least, further, some, none}
 use Rattle.laws.specs.Part.{part, differ, same}
 use Rattle.laws.specs.Sum.{sum}
+use Rattle.laws.specs.Joined.{all}
 use Rattle.laws.specs.Tabulate.{tabulate}
 use Rattle.text.specs.Characters.{within, takes, stopsAt, front, each, digits, spaces, zeros, codeText, filled}
 use Rattle.numbers.specs.Numbers.{digitOf, letterOf, valueTo, valueOf, digitsOf, says, wordOf}
@@ -25,7 +26,7 @@ use Rattle.records.specs.Quantities.{worth, worthAt, quantityOf}
 use Rattle.reader.specs.Totals.{totalHolds, totalTells, totalsTell}
 use Rattle.reader.specs.Keys.{repeats, repeatTold, keysTell}
 use Rattle.reader.specs.Reading.{isWhole, lengthTells, readAs, readOf}
-use Rattle.reader.specs.Samples.{all, code, letters, headerRest, headerFor, trailerFor, noTotals, emptyOn}
+use Rattle.reader.specs.Samples.{code, letters, headerRest, headerFor, trailerFor, noTotals, emptyOn}
 use Rattle.kinds.specs.Pairs.{pairs, pairFrom, requestIs, pairOf}
 use Rattle.agreement.specs.Items.{headerItems, agrees, itemTells, itemsTell}
 use Rattle.agreement.specs.Amounts.{baseOf, possible, partOfOne, debitTells}

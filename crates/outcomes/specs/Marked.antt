@@ -2,12 +2,13 @@
 use Prim.Native.Nat.{ℕ}
 use mathlib.Core.List.{List, [], _∷_, _++_}
 use lib.ListN.{length, take}
+use Rattle.laws.specs.Joined.{all}
 use Rattle.numbers.specs.Numbers.{digitsOf}
 use Rattle.kinds.specs.Kinds.{EB21}
 use Rattle.answers.specs.declared.told.Answer.{Answer}
 use Rattle.records.specs.Records.{dataOf}
 use Rattle.reader.specs.Reading.{readOf}
-use Rattle.reader.specs.Samples.{all, blanks, emptyOn}
+use Rattle.reader.specs.Samples.{blanks, emptyOn}
 use Rattle.pair.specs.Pairing.{pairTold}
 use Rattle.outcomes.specs.declared.cases.Told.{Told}
 use Rattle.outcomes.specs.Outcomes.{numbersOf, outcomeTold}

@@ -3,9 +3,10 @@ use Prim.Native.Nat.{ℕ}
 use mathlib.Core.Bool.{cond}
 use mathlib.Core.List.{List, [], _∷_, _++_}
 use lib.Dec.{eqb}
+use Rattle.laws.specs.Joined.{all}
 use Rattle.numbers.specs.Numbers.{digitsOf}
 use Rattle.kinds.specs.Kinds.{EB21, EB22}
-use Rattle.reader.specs.Samples.{all, blanks, code, headerFor, trailerFor}
+use Rattle.reader.specs.Samples.{blanks, code, headerFor, trailerFor}
 
 -- an account and a payer
 unfoldable pub account : List ℕ

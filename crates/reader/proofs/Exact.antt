@@ -34,11 +34,11 @@ use Rattle.reader.proofs.Stages.{record-good, good-record, good-total, 
 
 module _ (k : Kind) (s : List ℕ) where
   -- a bad length is told as it is
-  read-stops : (a : Answer) → lengthTells k s ≡ a → (a .number ≡ 0 → ⊥) → readAs k s ≡ a
+  read-stops : (a : Answer) → lengthTells k (length s) ≡ a → (a .number ≡ 0 → ⊥) → readAs k s ≡ a
   unfolding readAs
   read-stops a e ne = then-first _ _ (λ z. ne (number-of (sym e) ∙ z)) ∙ e
 
-  pub read-short : isWhole k s ≡ false → readAs k s ≡ refused 2
+  pub read-short : isWhole k (length s) ≡ false → readAs k s ≡ refused 2
   read-short f = read-stops (refused 2) (length-short k s f) (λ z. omega arith)
 
   -- the stages after a good one
@@ -135,21 +135,21 @@ module _ (k : Kind) (s : List ℕ) where
 
   -- *First refusal*: the answer names the first place at which something is wrong
   pub first-refusal : Says k s (readAs k s)
-  first-refusal = ⊎-elim whole part (either (isWhole k s))
+  first-refusal = ⊎-elim whole part (either (isWhole k (length s)))
     where
-      stops : (a : Answer) → lengthTells k s ≡ a → (a .number ≡ 0 → ⊥) → Says k s a → Says k s (readAs k s)
+      stops : (a : Answer) → lengthTells k (length s) ≡ a → (a .number ≡ 0 → ⊥) → Says k s a → Says k s (readAs k s)
       stops a e ne g = rw (read-stops a e ne) g
 
-      part : isWhole k s ≡ false → Says k s (readAs k s)
+      part : isWhole k (length s) ≡ false → Says k s (readAs k s)
       part f = stops (refused 2) (length-short k s f) (λ z. omega arith) (Says.short f)
 
-      fits : isWhole k s ≡ true → leb (countOf k s) (limit + 2) ≡ true → Says k s (readAs k s)
+      fits : isWhole k (length s) ≡ true → leb (countOf k s) (limit + 2) ≡ true → Says k s (readAs k s)
       fits t u = says-lengths (length-good k s (number-of (length-right k s t u)))
 
-      over : isWhole k s ≡ true → leb (countOf k s) (limit + 2) ≡ false → Says k s (readAs k s)
+      over : isWhole k (length s) ≡ true → leb (countOf k s) (limit + 2) ≡ false → Says k s (readAs k s)
       over t f = stops (refused 3) (length-long k s t f) (λ z. omega arith) (Says.long t (leb-false (countOf k s) (limit + 2) f))
 
-      whole : isWhole k s ≡ true → Says k s (readAs k s)
+      whole : isWhole k (length s) ≡ true → Says k s (readAs k s)
       whole t = ⊎-elim (fits t) (over t) (either (leb (countOf k s) (limit + 2)))
 
   -- an answer that says accepted says that the file meets every rule

@@ -7,6 +7,7 @@ use mathlib.Core.Path.{_≡_, refl}
 use borrow.Author.Tests.{eqb-true, not-true}
 use lib.Dec.{eqb, leb}
 use Rattle.laws.proofs.Every.{every}
+use Rattle.laws.specs.Joined.{all}
 use Rattle.laws.specs.Tabulate.{tabulate}
 use Rattle.laws.specs.Least.{least, further, some, none}
 use Rattle.laws.specs.Part.{part, differ, same}
@@ -32,7 +33,7 @@ use Rattle.reader.specs.Keys.{repeats, repeatTold, keysTell}
 use Rattle.reader.specs.Reading.{isWhole, lengthTells, readAs}
 use Rattle.reader.proofs.Accepted.{read-zero}
 use Rattle.reader.proofs.Exact.{read-short}
-use Rattle.reader.specs.Samples.{all, code, letters, headerRest, headerFor, trailerFor, noTotals, emptyOn, emptyFile}
+use Rattle.reader.specs.Samples.{code, letters, headerRest, headerFor, trailerFor, noTotals, emptyOn, emptyFile}
 
 -- a sample of each kind has the number 0, computed over all kinds
 samples-good : every (λ k. eqb (readAs k (emptyFile k) .number) 0) kinds ≡ true
@@ -40,9 +41,9 @@ unfolding kinds tabulate letterOf least further some none part differ same sum w
 samples-good = refl
 
 -- no bytes are no whole number of records
-nothing-whole : (k : Kind) → isWhole k [] ≡ false
-unfolding isWhole countOf
-nothing-whole k = not-true (isWhole k []) (of-form (λ f. not (eqb (0 % fixedFor f .size) 0 && leb 2 (0 / fixedFor f .size))) refl (k .form))
+nothing-whole : (k : Kind) → isWhole k 0 ≡ false
+unfolding isWhole
+nothing-whole k = not-true (isWhole k 0) (of-form (λ f. not (eqb (0 % fixedFor f .size) 0 && leb 2 (0 / fixedFor f .size))) refl (k .form))
 
 -- so they are refused as 2, of any kind
 pub read-nothing : (k : Kind) → readAs k [] ≡ refused 2

@@ -20,9 +20,9 @@ pub data Says (k : Kind) (s : List ℕ) : Answer → Type 0 where
   -- 0: the file meets every rule
   good : Meets k s → Says k s accepted
   -- 2: no whole number of records, or fewer than two
-  short : isWhole k s ≡ false → Says k s (refused 2)
+  short : isWhole k (length s) ≡ false → Says k s (refused 2)
   -- 3: too many data records
-  long : isWhole k s ≡ true → limit + 2 < countOf k s → Says k s (refused 3)
+  long : isWhole k (length s) ≡ true → limit + 2 < countOf k s → Says k s (refused 3)
   -- 4, 5: row j of record i does not hold, and every row before it in file order does
   row : (i j : ℕ) → Lengths k s → i < countOf k s → j < length (rowsAt k s i) → rowHolds k s i j ≡ false →
       ((m : ℕ) → m < j → rowHolds k s i m ≡ true) → RowsHold k s i → Says k s (brokenAt i (getD (rowsAt k s i) j blank))

@@ -10,22 +10,22 @@ use Rattle.kinds.specs.declared.of_files.Named.{Named}
 use Rattle.kinds.specs.declared.of_files.Named.the-variants.{Is, Unknown}
 use Rattle.answers.specs.Answers.{accepted, refused, _then_}
 use Rattle.kinds.specs.Kinds.{fixedOf, kindOf, limit}
-use Rattle.records.specs.Records.{countOf}
+use Rattle.records.specs.Records.{countIn}
 use Rattle.reader.specs.Judged.{recordsTell}
 use Rattle.reader.specs.Totals.{totalsTell}
 use Rattle.reader.specs.Keys.{keysTell}
 
--- a whole number of records, at least two
-unfoldable pub isWhole : Kind → List ℕ → Bool
-isWhole k s = eqb (length s % fixedOf k .size) 0 && leb 2 (countOf k s)
+-- so many bytes are a whole number of records, at least two
+unfoldable pub isWhole : Kind → ℕ → Bool
+isWhole k n = eqb (n % fixedOf k .size) 0 && leb 2 (countIn k n)
 
 -- 2: not whole; 3: more data records than the limit
-unfoldable pub lengthTells : Kind → List ℕ → Answer
-lengthTells k s = cond (isWhole k s) (cond (leb (countOf k s) (limit + 2)) accepted (refused 3)) (refused 2)
+unfoldable pub lengthTells : Kind → ℕ → Answer
+lengthTells k n = cond (isWhole k n) (cond (leb (countIn k n) (limit + 2)) accepted (refused 3)) (refused 2)
 
 -- the file as one of a kind
 unfoldable pub readAs : Kind → List ℕ → Answer
-readAs k s = lengthTells k s then recordsTell k s then totalsTell k s then keysTell k s
+readAs k s = lengthTells k (length s) then recordsTell k s then totalsTell k s then keysTell k s
 
 -- 1: the kind is unknown
 abbrev pub readNamed : Named → List ℕ → Answer

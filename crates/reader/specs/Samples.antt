@@ -2,15 +2,12 @@
 use Prim.Native.Nat.{ℕ}
 use mathlib.Core.List.{List, [], _∷_, _++_}
 use lib.ListN.{replicate}
+use Rattle.laws.specs.Joined.{all}
 use Rattle.laws.specs.Tabulate.{tabulate}
 use Rattle.numbers.specs.Numbers.{digitsOf, letterOf}
 use Rattle.kinds.specs.declared.of_files.Kind.{Kind}
 use Rattle.kinds.specs.declared.of_files.Form.{Form}
 use Rattle.kinds.specs.declared.of_files.Form.the-variants.{EnrolmentRequest, EnrolmentResult, DebitRequest, DebitResult}
-
-unfoldable pub all : List (List ℕ) → List ℕ
-all [] = []
-all (s ∷ ss) = s ++ all ss
 
 abbrev pub blanks : ℕ → List ℕ
 blanks n = replicate n 0x20

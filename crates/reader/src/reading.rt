@@ -10,19 +10,20 @@ use kinds::of_files::Fixed;
 use kinds::of_files::Kind;
 use kinds::of_files::LIMIT;
 use kinds::of_files::Named;
-use records::listed;
 
-fn is_whole(kind: Kind, file: &[u8]) -> bool
-    ensures { λ r. ⌜ r ≡ isWhole kind (now (file .entry)) ⌝ }
+fn is_whole(kind: Kind, length: usize) -> bool
+    ensures { λ r. ⌜ r ≡ isWhole kind length ⌝ }
 {
-    file.len() % Fixed::of(kind).size == 0 && 2 <= listed::count(kind, file)
+    let size = Fixed::of(kind).size;
+    length % size == 0 && 2 <= length / size
 }
 
-fn length_tells(kind: Kind, file: &[u8]) -> Answer
-    ensures { λ r. ⌜ r ≡ lengthTells kind (now (file .entry)) ⌝ }
+// What the number of its bytes alone tells of a file of a kind.
+pub fn length_tells(kind: Kind, length: usize) -> Answer
+    ensures { λ r. ⌜ r ≡ lengthTells kind length ⌝ }
 {
-    if is_whole(kind, file) {
-        if listed::count(kind, file) <= LIMIT + 2 {
+    if is_whole(kind, length) {
+        if length / Fixed::of(kind).size <= LIMIT + 2 {
             return Answer::accepted();
         }
         return Answer::refused(3);
@@ -34,7 +35,7 @@ fn length_tells(kind: Kind, file: &[u8]) -> Answer
 pub fn read_as(kind: Kind, file: &[u8]) -> Answer
     ensures { λ r. ⌜ r ≡ readAs kind (now (file .entry)) ⌝ }
 {
-    let of_length = length_tells(kind, file);
+    let of_length = length_tells(kind, file.len());
     if of_length.number != 0 {
         return of_length;
     }

@@ -14,9 +14,13 @@ recordAt size i s = part (i * size) size s
 abbrev pub recordOf : Kind → List ℕ → ℕ → List ℕ
 recordOf k s i = recordAt (fixedOf k .size) i s
 
+-- how many whole records so many bytes are
+abbrev pub countIn : Kind → ℕ → ℕ
+countIn k n = n / fixedOf k .size
+
 -- how many whole records a file has; how many of them are data, n; the trailer is record n + 1
 unfoldable pub countOf : Kind → List ℕ → ℕ
-countOf k s = length s / fixedOf k .size
+countOf k s = countIn k (length s)
 
 abbrev pub dataOf : Kind → List ℕ → ℕ
 dataOf k s = countOf k s - 2

@@ -4,6 +4,7 @@
 //! taken from the layout papers, so that the reader's lengths are checked, too)
 //! and then spoiled in many ways.  The same seed gives the same inputs.
 
+mod arrivals;
 mod day_changed;
 mod day_draft;
 mod day_files;
@@ -40,6 +41,7 @@ mod texts;
 mod units;
 mod writes;
 
+pub use arrivals::{any_arrival_room, any_cutting, any_state, kept_edges, longest_file, past_edges};
 pub use day_draft::{DayDraft, NamedBody};
 pub use day_files::any_day;
 pub use day_good::{day_of, good_day, name_of};

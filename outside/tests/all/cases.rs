@@ -2,7 +2,7 @@
 
 use super::common::put;
 use outside::gen::Draft;
-use outside::layout::Kind;
+use outside::layout::{Family, Kind};
 use outside::model::code_number;
 
 /// Bytes that no file has where it is filled.
@@ -129,4 +129,18 @@ pub fn debit(payer: &str, result: &str) -> Vec<u8> {
         filled("0", 1 + 12 + 21),
     ];
     items.concat()
+}
+
+/// A good file by its name, of so many records.
+pub fn file_of(name: &str, records: u64) -> Vec<u8> {
+    let (letters, day) = name.split_at(4);
+    let kind = Kind::ALL.into_iter().find(|kind| kind.letters() == letters.as_bytes());
+    let kind = kind.unwrap_or_else(|| panic!("no kind: {name}"));
+    let result = if kind.is_request() { "" } else { "N0021" };
+    let body = |payer: String| match kind.family() {
+        Family::Enrolment => enrolment("1", &payer, result),
+        Family::Debit => debit(&payer, result),
+    };
+    let bodies = (1..=records).map(|n| body(format!("P{n}"))).collect();
+    draft(kind, &format!("24{day}"), bodies).file()
 }

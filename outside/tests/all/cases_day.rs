@@ -1,11 +1,9 @@
 //! The list of edge cases of day files, `cases/day.txt`, whose head says how an input is made.
 
 use super::cases::{
-    self, answer as answer_of, bytes, change, debit, draft, enrolment, number, parted, repeated, sides,
-    UNWRITTEN,
+    self, answer as answer_of, bytes, change, file_of, number, parted, repeated, sides, UNWRITTEN,
 };
 use outside::gen::{DayDraft, DayWriteInput, NamedBody};
-use outside::layout::{Family, Kind};
 
 /// One line of the list.
 pub struct Case {
@@ -107,18 +105,4 @@ fn body_of(word: &str) -> NamedBody {
         None => vec![b' '; number(file) as usize],
     };
     NamedBody { name, file }
-}
-
-/// A good file of so many records.
-fn file_of(name: &str, records: u64) -> Vec<u8> {
-    let (letters, day) = name.split_at(4);
-    let kind = Kind::ALL.into_iter().find(|kind| kind.letters() == letters.as_bytes());
-    let kind = kind.unwrap_or_else(|| panic!("no kind: {name}"));
-    let result = if kind.is_request() { "" } else { "N0021" };
-    let body = |payer: String| match kind.family() {
-        Family::Enrolment => enrolment("1", &payer, result),
-        Family::Debit => debit(&payer, result),
-    };
-    let bodies = (1..=records).map(|n| body(format!("P{n}"))).collect();
-    draft(kind, &format!("24{day}"), bodies).file()
 }

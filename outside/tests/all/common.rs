@@ -89,6 +89,23 @@ fn in_words(said: &Result<Said, Breach>, room: Option<&[u8]>, words: fn(&[u64]) 
     }
 }
 
+/// What was said of a part or an end: what was returned, the state, how much of the room is as it was, and the answer.
+pub fn arrival_shown(said: &Result<Said, Breach>, room: &[u8]) -> String {
+    let Said { returned, written } = match said {
+        Ok(said) => said,
+        Err(breach) => return breach.to_string(),
+    };
+    let (state, rest) = written.split_at(16);
+    let (left, answer) = rest.split_at(room.len());
+    let [state, answer] = [state, answer].map(|bytes| Said::new(0).bytes(bytes).as_numbers());
+    let same = left.iter().zip(room).filter(|(after, before)| after == before).count();
+    let bytes = keep("room", left);
+    let room = format!("the room {} with {same} bytes as before", bytes.display());
+    // Where a whole arrival was one call, its parts come before the answer.
+    let answer = shown(&answer[answer.len().saturating_sub(5)..]);
+    format!("{returned} returned; state {state:?}; {room}; {answer}")
+}
+
 /// Holds an implementation to a list of cases, and names every one that it answers in another way: `of` a case are its
 /// name, what the list says and what the implementation says.
 pub fn held_to_a_list<C>(

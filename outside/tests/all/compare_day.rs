@@ -283,7 +283,7 @@ fn name_in(kind: Kind, day: &str) -> Vec<u8> {
 }
 
 /// Files of a kind that its reader refuses, with the number.
-fn refused_files(rng: &mut Rng, kind: Kind) -> Vec<(u64, Vec<u8>)> {
+pub(super) fn refused_files(rng: &mut Rng, kind: Kind) -> Vec<(u64, Vec<u8>)> {
     let (good, size) = (good_file(rng, kind, 2), kind.record_length());
     let with = |change: &dyn Fn(&mut Vec<u8>)| {
         let mut file = good.clone();

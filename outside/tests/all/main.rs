@@ -1,11 +1,13 @@
 //! All tests in one program, so that they run side by side.
 
 mod cases;
+mod cases_arrival;
 mod cases_day;
 mod cases_evidence;
 mod common;
 mod compare;
 mod compare_apart;
+mod compare_arrival;
 mod compare_day;
 mod compare_day_write;
 mod compare_evidence;
@@ -16,11 +18,13 @@ mod compare_post;
 mod compare_walk;
 mod compare_write;
 mod contracts;
+mod edges_arrival;
 mod edges_day;
 mod edges_evidence;
 mod items;
 mod items_day;
 mod itself;
+mod itself_arrival;
 mod itself_day;
 mod itself_day_generated;
 mod itself_evidence;
@@ -28,5 +32,6 @@ mod itself_evidence_generated;
 mod promises;
 mod samples;
 mod stack;
+mod stack_arrival;
 mod stack_day;
 mod stack_evidence;

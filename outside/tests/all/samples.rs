@@ -438,10 +438,16 @@ fn the_example_in_c_says_the_same() {
     assert!(compiled.success());
     for sample in samples() {
         let Some(words) = words(&sample) else { continue };
-        let run = Command::new(&example).args(words).output().expect("the example runs");
-        assert_eq!(String::from_utf8_lossy(&run.stdout), printed(&sample), "{}", sample.name);
-        let accepted = sample.expected.starts_with("accepted");
-        assert_eq!(run.status.code(), Some(i32::from(!accepted)), "{}", sample.name);
+        let mut ways = vec![words.clone()];
+        if matches!(sample.files, Files::One(_)) {
+            ways.push([vec!["PARTS".into()], words].concat());
+        }
+        for words in ways {
+            let run = Command::new(&example).args(&words).output().expect("the example runs");
+            assert_eq!(String::from_utf8_lossy(&run.stdout), printed(&sample), "{words:?}");
+            let accepted = sample.expected.starts_with("accepted");
+            assert_eq!(run.status.code(), Some(i32::from(!accepted)), "{words:?}");
+        }
     }
 }
 

@@ -1,7 +1,7 @@
 //! How much stack the library needs: every function of the C face, called on a painted stack with the largest inputs,
 //! good ones and ones whose fault is found last, touches no more than include/cms.h says.
 
-use super::{stack_day, stack_evidence};
+use super::{stack_arrival, stack_day, stack_evidence};
 use crate::common::put;
 use outside::bridge::{ask, Call};
 use outside::gen::{self, Draft, Rng};
@@ -33,7 +33,7 @@ fn drafts(rng: &mut Rng, pair: PairKind, n: usize) -> [Draft; 2] {
 }
 
 /// Files that are refused, with the number, most of them when all has been read; and the largest good one.
-fn files(kind: Kind, draft: &Draft) -> Vec<(&'static str, u64, Vec<u8>)> {
+pub(super) fn files(kind: Kind, draft: &Draft) -> Vec<(&'static str, u64, Vec<u8>)> {
     let (good, size) = (draft.file(), kind.record_length());
     let with = |change: &dyn Fn(&mut Vec<u8>)| {
         let mut file = good.clone();
@@ -204,6 +204,8 @@ fn all_cases() -> Vec<Case> {
         let [request, result] = drafts(&mut rng, pair, MOST_RECORDS);
         cases.extend(of_one_file(pair.request(), &request));
         cases.extend(of_one_file(pair.result(), &result));
+        cases.extend(stack_arrival::all_cases(pair.request(), &request));
+        cases.extend(stack_arrival::all_cases(pair.result(), &result));
         cases.extend(of_writing(pair.request(), &request));
         cases.extend(of_two_files(pair, &request, &result));
     }

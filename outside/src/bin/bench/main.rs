@@ -1,11 +1,16 @@
 //! How long the library takes, where it can be linked.
 
 #[cfg(target_arch = "x86_64")]
+mod arrivals;
+#[cfg(target_arch = "x86_64")]
 mod measures;
 
 fn main() {
     #[cfg(target_arch = "x86_64")]
-    measures::print();
+    {
+        measures::print();
+        arrivals::print();
+    }
     #[cfg(not(target_arch = "x86_64"))]
     println!("the library is for x86-64, and its time is measured there only");
 }

@@ -82,7 +82,7 @@ pub fn print() {
 }
 
 /// A good request whose payers are numbered one after another, so that keys differ only at their end.
-fn request_of(rng: &mut Rng, kind: Kind, n: usize) -> Draft {
+pub fn request_of(rng: &mut Rng, kind: Kind, n: usize) -> Draft {
     let mut draft = gen::request_of(rng, kind, n);
     let put = |body: &mut [u8], item: usize, text: &[u8]| {
         let start = gen::body_item(kind, item).start;
@@ -264,7 +264,7 @@ fn checksum(file: &[u8]) -> u64 {
 }
 
 /// The seconds of one call of each, in its shortest turn.
-fn in_turns(mut calls: [&mut dyn FnMut() -> u64; 3]) -> [f64; 3] {
+pub fn in_turns(mut calls: [&mut dyn FnMut() -> u64; 3]) -> [f64; 3] {
     let mut shortest = [f64::MAX; 3];
     for _ in 0..TURNS {
         for (call, shortest) in calls.iter_mut().zip(&mut shortest) {

@@ -10,18 +10,18 @@ of-requires : tie.Need-of-requires
 of-requires c κs = search needs
 
 rem-if1 : tie.Need-rem-if1
-rem-if1 c = rw (c .before .of .ensures) (size-pos (c .before .before .before .args .kind))
+rem-if1 c = rw (c .of .ensures) (size-pos (c .before .args .kind))
 
-count-requires : tie.Need-count-requires
-count-requires c κs = search needs
+div-result : tie.Need-div-result
+div-result c = rw (c .before .of .ensures) (size-pos (c .before .before .args .kind))
 
 returns : tie.Need-returns
 unfolding isWhole
-returns c = rw (← c .before .before .before .of .ensures, eq-eqb _ 0 (c .before .if1 .taken), c .count .ensures)
+returns c = rw (← c .before .of .ensures, eq-eqb _ 0 (c .if1 .taken))
 
 returns-2 : tie.Need-returns-2
 unfolding isWhole
-returns-2 c = rw (← c .before .before .of .ensures, ne-eqb _ 0 (c .if1 .left))
+returns-2 c = rw (← c .before .of .ensures, ne-eqb _ 0 (c .if1 .left))
 
 pub is-whole-spec : {M : Type 1} → statement M
-is-whole-spec = tie.close (tie.spec of-requires rem-if1 count-requires returns returns-2)
+is-whole-spec = tie.close (tie.spec of-requires rem-if1 div-result returns returns-2)
