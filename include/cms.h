@@ -57,8 +57,13 @@ extern "C" {
  * records with a code of the centre; before, any digits did. 4: kinds EC21 and EC22 and the pair kind EC21 came: every
  * function that takes a kind or a pair takes them as it takes EB21 and EB22, and day files hold them; before, they were
  * 1. No function changed its parameters. 5: nothing that can be seen from here changed, neither a function nor an answer. 6:
- * cms_part and cms_end came, and no other function changed. */
-#define CMS_FACE 6
+ * cms_part and cms_end came, and no other function changed. 7: every function that reads or writes an EB21 or EC21, by
+ * itself, in a pair or in a day file, refuses one, with 4 at item 9 and code "0087", whose passbook text is in none of
+ * three forms: eight two-byte characters; "00" and fourteen one-byte ones; or "A", a digit k from 2 to 5, k two-byte
+ * characters and 14 minus 2k one-byte ones. Both bytes of a two-byte character are hex A1 to FE; a one-byte character is a
+ * letter, a digit or a space. Before, any bytes hex 20 or above did, so files written before may be refused now. EB22 and
+ * EC22 are held to no form, as before. No function changed its parameters. */
+#define CMS_FACE 7
 
 #define CMS_EB13 UINT32_C(0x45423133)
 #define CMS_EB14 UINT32_C(0x45423134)

@@ -45,6 +45,30 @@ pub fn passbook_text(text: &[u8]) -> bool {
     text.iter().all(|&b| b >= 0x20)
 }
 
+/// One of the three forms of a passbook text of 16 bytes: eight two-byte characters; "00" and fourteen one-byte ones; or "A",
+/// a digit k from 2 to 5, k two-byte characters and then 14 minus 2k one-byte ones.
+pub fn passbook_form(text: &[u8]) -> bool {
+    match text {
+        _ if text.len() != 16 => false,
+        [b'0', b'0', rest @ ..] => one_byte_characters(rest),
+        [b'A', k @ b'2'..=b'5', rest @ ..] => {
+            let (two_byte, one_byte) = rest.split_at(2 * usize::from(k - b'0'));
+            two_byte_characters(two_byte) && one_byte_characters(one_byte)
+        }
+        _ => two_byte_characters(text),
+    }
+}
+
+/// Two-byte characters: both bytes of each are hex A1 to FE. (The bytes are even in number.)
+fn two_byte_characters(text: &[u8]) -> bool {
+    text.iter().all(|b| (0xa1..=0xfe).contains(b))
+}
+
+/// One-byte characters: letters of either case, digits and spaces.
+fn one_byte_characters(text: &[u8]) -> bool {
+    text.iter().all(|&b| b.is_ascii_alphanumeric() || b == b' ')
+}
+
 /// An institution code: "99", then eight digits.
 pub fn institution_code(text: &[u8]) -> bool {
     text.len() == 10 && text.starts_with(b"99") && digits(text)

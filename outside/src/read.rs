@@ -2,8 +2,8 @@
 //! (4 and 5 as met), then 6 by item, then 7.
 
 use crate::chars::{
-    code_text, digits, filled_code_text, free_text, institution_code, number, passbook_text, real_date,
-    spaces,
+    code_text, digits, filled_code_text, free_text, institution_code, number, passbook_form, passbook_text,
+    real_date, spaces,
 };
 use crate::checked::Checked;
 use crate::layout::{is_centre_code, is_table_code, Family, Kind, PairKind, Record, MOST_RECORDS};
@@ -146,6 +146,9 @@ fn check_debit(record: &Checked, kind: Kind) -> Result<(), Answer> {
         record.class(8, debit_result, b"0088")?;
     }
     record.class(9, passbook_text, b"0068")?;
+    if kind.is_request() {
+        record.class(9, passbook_form, b"0087")?;
+    }
     record.class(10, code_text, b"0098")?;
     record.class(11, filled_code_text, b"0098")?;
     record.class(12, free_text, b"0088")?;

@@ -7,7 +7,7 @@ use lib.ListN.{length, getD}
 use Rattle.laws.specs.Least.{least}
 use Rattle.tables.specs.declared.row.Row.{Row}
 use Rattle.tables.specs.declared.row.Class.{Class}
-use Rattle.tables.specs.declared.row.Class.the-variants.{Each, CodeText, Filled, Owner, Institution, KindName, Date, NameDate, Serial, AsHeader, NotLater, Application, NotZero, Failed, FailedOrPart, Least, LongDate, HeaderFrom, Extension}
+use Rattle.tables.specs.declared.row.Class.the-variants.{Each, CodeText, Filled, Owner, Institution, KindName, Date, NameDate, Serial, AsHeader, NotLater, Application, NotZero, Failed, FailedOrPart, Least, LongDate, HeaderFrom, Extension, PassbookForm}
 use Rattle.tables.specs.Rows.{blank}
 
 -- a row is over place j, row i is, the first row that is
@@ -41,3 +41,4 @@ fillBy Least given letter digit theirs = given
 fillBy LongDate given letter digit theirs = given
 fillBy (HeaderFrom start) given letter digit theirs = given
 fillBy Extension given letter digit theirs = given
+fillBy PassbookForm given letter digit theirs = given

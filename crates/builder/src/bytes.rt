@@ -29,6 +29,7 @@ pub(crate) fn fill(class: Class, given: u8, letter: u8, digit: u8, theirs: u8) -
         Class::LongDate => given,
         Class::HeaderFrom(_) => given,
         Class::Extension => given,
+        Class::PassbookForm => given,
     }
 }
 

@@ -54,6 +54,7 @@ const HEADER: [Row; MOST] = [
     BLANK,
     BLANK,
     BLANK,
+    BLANK,
 ];
 
 const ORDINARY: [Row; MOST] = [
@@ -74,6 +75,7 @@ const ORDINARY: [Row; MOST] = [
     Row(10, 106, 1, Class::Each(b'1', b'6'), C0101),
     Row(11, 107, 5, Class::Extension, C0102),
     Row(12, 112, 7, DIGITS, C0088),
+    BLANK,
 ];
 
 const EXEMPT: [Row; MOST] = [
@@ -94,6 +96,7 @@ const EXEMPT: [Row; MOST] = [
     Row(10, 106, 1, Class::Each(b'1', b'6'), C0101),
     Row(11, 107, 5, SPACES, C0102),
     Row(12, 112, 7, DIGITS, C0088),
+    BLANK,
 ];
 
 const TRAILER: [Row; MOST] = [
@@ -109,6 +112,7 @@ const TRAILER: [Row; MOST] = [
     Row(5, 35, 7, DIGITS, C0088),
     Row(6, 42, 10, DIGITS, C0088),
     Row(7, 52, 972, SPACES, C0089),
+    BLANK,
     BLANK,
     BLANK,
     BLANK,

@@ -5,7 +5,7 @@ use lib.ListN.{getD}
 use Rattle.laws.specs.Part.{part}
 use Rattle.numbers.specs.Numbers.{valueOf, wordOf}
 use Rattle.tables.specs.declared.copied.Copied.{Copied}
-use Rattle.tables.specs.Places.{datePlace, nameDayPlace, applicationPlace, amountPlace, debitedPlace, typePlace}
+use Rattle.tables.specs.Places.{datePlace, nameDayPlace, applicationPlace, amountPlace, debitedPlace, passbookPlace, typePlace}
 
 -- the bytes at a place, and the first of them
 abbrev pub bytesAt : Copied → List ℕ → List ℕ
@@ -25,7 +25,7 @@ nameDay header = bytesAt nameDayPlace header
 abbrev pub applicationOf : List ℕ → ℕ
 applicationOf rec = byteAt applicationPlace rec
 
--- of a debit record: the amount, item 6; the result's mark and its code, in item 8; the type, item 13
+-- of a debit record: the amount, item 6; the result's mark and its code, in item 8; the passbook text, item 9; the type, item 13
 abbrev pub amountOf : List ℕ → ℕ
 amountOf rec = valueOf (bytesAt amountPlace rec)
 
@@ -34,6 +34,9 @@ markOf rec = byteAt debitedPlace rec
 
 abbrev pub codeOf : List ℕ → ℕ
 codeOf rec = wordOf (part (debitedPlace .1 + 1) 4 rec)
+
+abbrev pub passbookOf : List ℕ → List ℕ
+passbookOf rec = bytesAt passbookPlace rec
 
 abbrev pub typeOf : List ℕ → ℕ
 typeOf rec = byteAt typePlace rec

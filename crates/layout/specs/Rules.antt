@@ -6,13 +6,14 @@ use lib.Dec.{leb, eqb}
 use lib.ListN.{getD, drop}
 use Rattle.laws.specs.Part.{part, same, begins}
 use Rattle.text.specs.Characters.{each, codeText, filled, digits, zeros}
+use Rattle.text.specs.Passbook.{passbookForm}
 use Rattle.numbers.specs.Numbers.{says, wordOf}
 use Rattle.numbers.specs.Dates.{isDate, notLater, isLongDate}
 use Rattle.evidence_kinds.specs.Evidence.{extension}
 use Rattle.kinds.specs.declared.of_files.Own.{Own}
 use Rattle.tables.specs.declared.row.Row.{Row}
 use Rattle.tables.specs.declared.row.Class.{Class}
-use Rattle.tables.specs.declared.row.Class.the-variants.{Each, CodeText, Filled, Owner, Institution, KindName, Date, NameDate, Serial, AsHeader, NotLater, Application, NotZero, Failed, FailedOrPart, Least, LongDate, HeaderFrom, Extension}
+use Rattle.tables.specs.declared.row.Class.the-variants.{Each, CodeText, Filled, Owner, Institution, KindName, Date, NameDate, Serial, AsHeader, NotLater, Application, NotZero, Failed, FailedOrPart, Least, LongDate, HeaderFrom, Extension, PassbookForm}
 use Rattle.tables.specs.Codes.{isTableCode}
 use Rattle.layout.specs.Items.{dateOf, nameDay, amountOf, applicationOf}
 
@@ -61,6 +62,7 @@ meets Least o item theirs rec header n = enough (o .least) item rec
 meets LongDate o item theirs rec header n = isLongDate item
 meets (HeaderFrom start) o item theirs rec header n = begins item (drop start header)
 meets Extension o item theirs rec header n = extension (getD rec 106 0) item
+meets PassbookForm o item theirs rec header n = passbookForm item
 
 -- the row's rule holds in a record
 unfoldable pub holds : Own → List ℕ → List ℕ → ℕ → Row → Bool

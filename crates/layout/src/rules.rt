@@ -14,6 +14,7 @@ use tables::row::Class;
 use tables::row::Row;
 use text::characters;
 use text::parts;
+use text::passbook;
 
 // Four spaces: a code that is left blank.
 const BLANK: u64 = 0x2020_2020;
@@ -101,5 +102,6 @@ pub(crate) fn holds(own: Own, row: Row, rec: &[u8], header: &[u8], number: u64) 
         Class::LongDate => dates::long_date(item),
         Class::HeaderFrom(from) => parts::begins(item, parts::rest(header, from as usize)),
         Class::Extension => allowed::extension(parts::byte(rec, 106), item),
+        Class::PassbookForm => passbook::passbook_form(item),
     }
 }

@@ -8,3 +8,4 @@ pub mod Cut
 pub mod Accepted
 pub mod Marking
 pub mod OneKind
+pub mod Passbooks

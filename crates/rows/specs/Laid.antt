@@ -12,7 +12,7 @@ laid (suc n) (r ∷ rows) = r ∷ laid n rows
 
 -- the most rows that a record has
 abbrev pub most : ℕ
-most = 17
+most = 18
 
 unfoldable pub laidOut : List Row → List Row
 laidOut rows = laid most rows

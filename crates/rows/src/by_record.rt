@@ -9,7 +9,7 @@ use tables::row::Class;
 use tables::row::Row;
 
 // The most rows that a record has; shorter tables end in blank rows.
-pub const MOST: usize = 17;
+pub const MOST: usize = 18;
 
 const BLANK: Row = Row(0, 0, 0, Class::Each(0, 0), 0);
 
@@ -45,6 +45,8 @@ const C0075: u32 = 0x3030_3735;
 
 const C0081: u32 = 0x3030_3831;
 
+const C0087: u32 = 0x3030_3837;
+
 const C0088: u32 = 0x3030_3838;
 
 const C0089: u32 = 0x3030_3839;
@@ -77,6 +79,7 @@ const ENROLMENT_HEADER: [Row; MOST] = [
     BLANK,
     BLANK,
     BLANK,
+    BLANK,
 ];
 
 const DEBIT_HEADER: [Row; MOST] = [
@@ -91,6 +94,7 @@ const DEBIT_HEADER: [Row; MOST] = [
     Row(6, 33, 7, DIGITS, C0011),
     Row(7, 40, 16, Class::Filled, C0098),
     Row(8, 56, 94, SPACES, C0089),
+    BLANK,
     BLANK,
     BLANK,
     BLANK,
@@ -117,6 +121,7 @@ const ENROLMENT_REQUEST_DATA: [Row; MOST] = [
     Row(15, 109, 1, SPACES, C0089),
     Row(16, 110, 10, SPACES, C0089),
     BLANK,
+    BLANK,
 ];
 
 const ENROLMENT_RESULT_DATA: [Row; MOST] = [
@@ -137,6 +142,7 @@ const ENROLMENT_RESULT_DATA: [Row; MOST] = [
     Row(15, 109, 1, SPACES, C0089),
     Row(16, 110, 10, SPACES, C0089),
     BLANK,
+    BLANK,
 ];
 
 const DEBIT_REQUEST_DATA: [Row; MOST] = [
@@ -150,6 +156,7 @@ const DEBIT_REQUEST_DATA: [Row; MOST] = [
     Row(7, 55, 13, Class::CodeText, C0098),
     Row(8, 68, 5, SPACES, C0089),
     Row(9, 73, 16, PASSBOOK, C0068),
+    Row(9, 73, 16, Class::PassbookForm, C0087),
     Row(10, 89, 2, Class::CodeText, C0098),
     Row(11, 91, 20, Class::Filled, C0098),
     Row(12, 111, 5, FREE, C0088),
@@ -177,6 +184,7 @@ const DEBIT_RESULT_DATA: [Row; MOST] = [
     Row(14, 117, 12, FREE, C0088),
     Row(15, 129, 21, SPACES, C0089),
     BLANK,
+    BLANK,
 ];
 
 const ENROLMENT_REQUEST_TRAILER: [Row; MOST] = [
@@ -191,6 +199,7 @@ const ENROLMENT_REQUEST_TRAILER: [Row; MOST] = [
     Row(9, 59, 8, DIGITS, C0088),
     Row(10, 67, 43, SPACES, C0089),
     Row(11, 110, 10, SPACES, C0089),
+    BLANK,
     BLANK,
     BLANK,
     BLANK,
@@ -217,6 +226,7 @@ const ENROLMENT_RESULT_TRAILER: [Row; MOST] = [
     BLANK,
     BLANK,
     BLANK,
+    BLANK,
 ];
 
 const DEBIT_REQUEST_TRAILER: [Row; MOST] = [
@@ -231,6 +241,7 @@ const DEBIT_REQUEST_TRAILER: [Row; MOST] = [
     Row(9, 64, 13, ZEROS, C0090),
     Row(10, 77, 63, SPACES, C0089),
     Row(11, 140, 10, SPACES, C0089),
+    BLANK,
     BLANK,
     BLANK,
     BLANK,
@@ -255,6 +266,7 @@ const DEBIT_RESULT_TRAILER: [Row; MOST] = [
     Row(13, 100, 11, ZEROS, C0090),
     Row(14, 111, 29, SPACES, C0089),
     Row(15, 140, 10, FREE, C0088),
+    BLANK,
     BLANK,
     BLANK,
 ];

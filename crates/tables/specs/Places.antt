@@ -43,12 +43,15 @@ memberPlace = place 6 26 20
 abbrev pub enrolledPlace : Copied
 enrolledPlace = place 12 91 5
 
--- of a debit record: the amount, the result, the payer, the institution's own use, the type
+-- of a debit record: the amount, the result, the passbook text, the payer, the institution's own use, the type
 abbrev pub amountPlace : Copied
 amountPlace = place 6 42 13
 
 abbrev pub debitedPlace : Copied
 debitedPlace = place 8 68 5
+
+abbrev pub passbookPlace : Copied
+passbookPlace = place 9 73 16
 
 abbrev pub payerPlace : Copied
 payerPlace = place 11 91 20
@@ -87,8 +90,8 @@ headerPlaces DebitResult = codePlace ∷ nameDayPlace ∷ datePlace ∷ branchPl
 abbrev pub dataPlaces : Form → List Copied
 dataPlaces EnrolmentRequest = applicationPlace ∷ memberPlace ∷ enrolledPlace ∷ []
 dataPlaces EnrolmentResult = applicationPlace ∷ memberPlace ∷ enrolledPlace ∷ []
-dataPlaces DebitRequest = amountPlace ∷ debitedPlace ∷ payerPlace ∷ usePlace ∷ typePlace ∷ []
-dataPlaces DebitResult = amountPlace ∷ debitedPlace ∷ payerPlace ∷ usePlace ∷ typePlace ∷ []
+dataPlaces DebitRequest = amountPlace ∷ debitedPlace ∷ passbookPlace ∷ payerPlace ∷ usePlace ∷ typePlace ∷ []
+dataPlaces DebitResult = amountPlace ∷ debitedPlace ∷ passbookPlace ∷ payerPlace ∷ usePlace ∷ typePlace ∷ []
 
 -- the key is two items side by side, reported as `reported`; a result's mark begins the item of its result
 unfoldable pub keyIs : Form → Copied → Copied → Copied → Bool

@@ -7,7 +7,7 @@ use Rattle.kinds.specs.declared.of_files.Form.the-variants.{EnrolmentRequest, E
 use Rattle.kinds.specs.declared.of_files.Role.{Role}
 use Rattle.kinds.specs.declared.of_files.Role.the-variants.{Header, Data, Trailer}
 use Rattle.tables.specs.declared.row.Row.{Row}
-use Rattle.tables.specs.declared.row.Class.the-variants.{Each, CodeText, Filled, Owner, Institution, KindName, Date, NameDate, Serial, AsHeader, NotLater, Application, NotZero, Failed, FailedOrPart, Least}
+use Rattle.tables.specs.declared.row.Class.the-variants.{Each, CodeText, Filled, Owner, Institution, KindName, Date, NameDate, Serial, AsHeader, NotLater, Application, NotZero, Failed, FailedOrPart, Least, PassbookForm}
 use Rattle.tables.specs.Rows.{row, only, spaces, zeros, digits, free, passbook}
 
 -- codes as numbers; c0000 where breaking the rule is refusal 5
@@ -28,6 +28,9 @@ c0075 = 0x30303735
 
 abbrev c0081 : ℕ
 c0081 = 0x30303831
+
+abbrev c0087 : ℕ
+c0087 = 0x30303837
 
 abbrev c0088 : ℕ
 c0088 = 0x30303838
@@ -105,9 +108,9 @@ enrolmentRequestData = enrolmentData (row 12 91 5 spaces c0089)
 unfoldable pub enrolmentResultData : List Row
 enrolmentResultData = enrolmentData (row 12 91 5 Failed c0088)
 
--- debit data, but for item 8 and what else item 13 asks
-unfoldable pub debitData : Row → List Row → List Row
-debitData result more = dataFront ++ (
+-- debit data, but for item 8 and what else items 9 and 13 ask
+unfoldable pub debitData : Row → List Row → List Row → List Row
+debitData result form enough = dataFront ++ (
     row 4 19 7 digits c0011 ∷
     row 5 26 16 Filled c0098 ∷
     row 6 42 13 digits c0088 ∷
@@ -115,20 +118,21 @@ debitData result more = dataFront ++ (
     row 7 55 13 CodeText c0098 ∷
     result ∷
     row 9 73 16 passbook c0068 ∷
+    []) ++ (form ++ (
     row 10 89 2 CodeText c0098 ∷
     row 11 91 20 Filled c0098 ∷
     row 12 111 5 free c0088 ∷
     row 13 116 1 (Each 0x30 0x36) c0075 ∷
-    []) ++ (more ++ (
+    []) ++ (enough ++ (
     row 14 117 12 free c0088 ∷
     row 15 129 21 spaces c0089 ∷
-    []))
+    [])))
 
 unfoldable pub debitRequestData : List Row
-debitRequestData = debitData (row 8 68 5 spaces c0089) (row 13 116 1 Least c0075 ∷ [])
+debitRequestData = debitData (row 8 68 5 spaces c0089) (row 9 73 16 PassbookForm c0087 ∷ []) (row 13 116 1 Least c0075 ∷ [])
 
 unfoldable pub debitResultData : List Row
-debitResultData = debitData (row 8 68 5 FailedOrPart c0088) []
+debitResultData = debitData (row 8 68 5 FailedOrPart c0088) [] []
 
 -- trailer, all kinds
 unfoldable pub trailerFront : List Row

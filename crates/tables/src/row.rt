@@ -40,6 +40,8 @@ pub enum Class {
     HeaderFrom(u8),
     // an extension that the kind of evidence allows
     Extension,
+    // passbook text in one of its three forms
+    PassbookForm,
 }
 
 // Item, start, length, class, code.

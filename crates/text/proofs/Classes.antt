@@ -14,8 +14,9 @@ use Rattle.laws.specs.Part.{part}
 use Rattle.laws.proofs.Bools.{and-left, and-right}
 use Rattle.laws.proofs.Leasts.{least-before, least-none}
 use Rattle.laws.proofs.Parts.{part-length}
+use Rattle.text.specs.declared.characters.Set.{Set}
 use Rattle.text.specs.declared.characters.Set.the-variants.{From}
-use Rattle.text.specs.Characters.{within, takes, stopsAt, front, each}
+use Rattle.text.specs.Characters.{within, takes, stopsAt, front, takesAll, each}
 
 -- within, as two orders
 pub within-low : (low high b : ℕ) → within low high b ≡ true → low ≤ b
@@ -30,18 +31,26 @@ pub within-if : (low high b : ℕ) → low ≤ b → b ≤ high → within low h
 unfolding within
 within-if low high b l h = rw (le-leb low b l, le-leb b high h)
 
+-- a set that takes all takes each, and where it takes each it takes all
+module _ (set : Set) (s : List ℕ) where
+  pub all-at : takesAll set s ≡ true → (k : ℕ) → k < length s → takes set (getD s k 0) ≡ true
+  unfolding front stopsAt
+  all-at t k h =
+      not-false (takes set (getD s k 0)) (least-before (stopsAt set s) (length s) (eqb-true (front set s) (length s) t) k h)
+
+  pub all-if : ((k : ℕ) → k < length s → takes set (getD s k 0) ≡ true) → takesAll set s ≡ true
+  unfolding front stopsAt
+  all-if f = eq-eqb (front set s) (length s) (least-none (stopsAt set s) (length s) (λ k h. rw (f k h)))
+
 -- every byte of an `each` is within, and where all are it is one
 module _ (low high : ℕ) (s : List ℕ) where
   pub each-at : each low high s ≡ true → (k : ℕ) → k < length s → within low high (getD s k 0) ≡ true
-  unfolding each front stopsAt takes
-  each-at t k h =
-      not-false (within low high (getD s k 0))
-      (least-before (stopsAt (From low high) s) (length s) (eqb-true (front (From low high) s) (length s) t) k h)
+  unfolding each takes
+  each-at t k h = all-at (From low high) s t k h
 
   pub each-if : ((k : ℕ) → k < length s → within low high (getD s k 0) ≡ true) → each low high s ≡ true
-  unfolding each front stopsAt takes
-  each-if f =
-      eq-eqb (front (From low high) s) (length s) (least-none (stopsAt (From low high) s) (length s) (λ k h. rw (f k h)))
+  unfolding each takes
+  each-if f = all-if (From low high) s f
 
 -- one byte all along
 pub only-is : (b w : ℕ) (x : List ℕ) → length x ≡ w → each b b x ≡ true → x ≡ replicate w b

@@ -1,2 +1,3 @@
 -- Laws about the definitions of specs/.
 pub mod Classes
+pub mod Passbooks

@@ -1,2 +1,3 @@
 -- Characters, on a list of bytes.
 pub mod Characters
+pub mod Passbook

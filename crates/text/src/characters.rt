@@ -2,13 +2,15 @@
 ghost use mathlib.Core.Path.{_≡_};
 ghost use Prim.Native.Nat.{_≤_};
 ghost use lib.ListN.{length, drop};
-ghost use Rattle.text.specs.Characters.{within, takes, front, each, spaces, codeText, filled};
+ghost use Rattle.text.specs.declared.characters.Set.the-variants.{OneByte};
+ghost use Rattle.text.specs.Characters.{within, letter, takes, front, each, spaces, codeText, filled, oneByte};
 use crate::parts;
 
-// The bytes from a low one to a high one; or digits and capitals.
+// The bytes from a low one to a high one; digits and capitals; or letters of either case, digits and the space.
 enum Set {
     From(u8, u8),
     Code,
+    OneByte,
 }
 
 // The byte is one from low to high.
@@ -18,12 +20,30 @@ pub fn within(low: u8, high: u8, b: u8) -> bool
     low <= b && b <= high
 }
 
+// A letter of either case.
+fn letter(b: u8) -> bool
+    ensures { λ r. ⌜ r ≡ letter b ⌝ }
+{
+    within(b'A', b'Z', b) || within(b'a', b'z', b)
+}
+
+// A letter, a digit or a space.
+fn one_byte_character(b: u8) -> bool
+    ensures { λ r. ⌜ r ≡ takes OneByte b ⌝ }
+{
+    if letter(b) {
+        return true;
+    }
+    within(b'0', b'9', b) || b == b' '
+}
+
 fn takes(set: Set, b: u8) -> bool
     ensures { λ r. ⌜ r ≡ takes set b ⌝ }
 {
     match set {
         Set::From(low, high) => within(low, high, b),
         Set::Code => within(b'0', b'9', b) || within(b'A', b'Z', b),
+        Set::OneByte => one_byte_character(b),
     }
 }
 
@@ -72,4 +92,11 @@ pub fn filled(s: &[u8]) -> bool
         return false;
     }
     spaces_from(s, n)
+}
+
+// Every byte of s is a one-byte character: a letter of either case, a digit or a space.
+pub fn one_byte(s: &[u8]) -> bool
+    ensures { λ r. ⌜ r ≡ oneByte (now (s .entry)) ⌝ }
+{
+    front(Set::OneByte, s) == s.len()
 }

@@ -4,7 +4,7 @@ use super::day_draft::{DayDraft, NamedBody};
 use super::draft::Draft;
 use super::random::Rng;
 use super::requests::{good_request, request_of};
-use super::results::result_of;
+use super::results::{by_itself, result_of};
 use crate::layout::PairKind;
 use std::collections::HashSet;
 
@@ -45,7 +45,7 @@ fn some_drafts(rng: &mut Rng, bodies: usize) -> Vec<Draft> {
     // A result has fewer records than its request, so there are more of them.
     match rng.below(6) {
         0 => vec![request],
-        1..=3 => vec![result],
+        1..=3 => vec![by_itself(rng, result)],
         _ => vec![request, result],
     }
 }

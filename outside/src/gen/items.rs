@@ -1,5 +1,6 @@
 //! Good items of data records, and where items stand in a body: a data record without items 1 to 3.
 
+use super::passbook_texts::passbook_form;
 use super::random::Rng;
 use super::texts::{
     code_text, date_in_time, decimal, digits, free_text, passbook_text, spaces, table_code,
@@ -26,6 +27,7 @@ pub(super) fn good_item(rng: &mut Rng, kind: Kind, latest: &[u8], item: usize) -
             6 => decimal(rng.between(kind.pair().least_won(), 1_000_000), 13),
             7 => code_text(rng, 0, 13),
             8 => good_result(rng, kind),
+            9 if kind.is_request() => passbook_form(rng),
             9 => passbook_text(rng, 16),
             10 => code_text(rng, 0, 2),
             11 => code_text(rng, 1, 20),

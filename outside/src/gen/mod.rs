@@ -31,6 +31,7 @@ mod lent;
 mod mending;
 mod other_texts;
 mod pairs;
+mod passbook_texts;
 mod places;
 mod random;
 mod records_moved;

@@ -1,6 +1,7 @@
 //! Texts that may break the rule of the item for which they are.
 
 use super::draft::LARGEST_AMOUNT;
+use super::passbook_texts::near_passbook_form;
 use super::random::{Rng, SPECIAL_BYTES};
 use super::texts::{
     code_text, date, decimal, digits, free_text, no_date, passbook_text, spaces, table_code, CODE,
@@ -102,6 +103,7 @@ fn text_for_item(rng: &mut Rng, kind: Kind, data_item: DataItem) -> Option<Vec<u
             let amounts = [0, 0, 0, 1, 139, 140, least - 1, least - 1, least, least + 1, LARGEST_AMOUNT];
             decimal(rng.pick(&amounts), 13)
         }
+        (Family::Debit, 9) if kind.is_request() && rng.once_in(2) => near_passbook_form(rng),
         (Family::Debit, 13) if rng.once_in(2) => vec![rng.pick(b"01234567/ ")],
         _ => return None,
     };

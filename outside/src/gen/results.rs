@@ -4,7 +4,7 @@ use super::draft::{Draft, LARGEST_AMOUNT};
 use super::items::{body_amount, body_item, good_result, set_body_amount};
 use super::random::Rng;
 use super::requests::{base, good_request};
-use super::texts::free_text;
+use super::texts::{free_text, passbook_text};
 use crate::layout::{Kind, PairKind};
 
 /// A result for a request: some of its records in another order, answered.
@@ -82,6 +82,18 @@ pub fn good_draft(rng: &mut Rng, kind: Kind) -> Draft {
     if kind.is_request() {
         request
     } else {
-        result_of(rng, &request, false)
+        let result = result_of(rng, &request, false);
+        by_itself(rng, result)
     }
+}
+
+/// A result whose request nobody has, so that each of its passbook texts may be another.
+pub(super) fn by_itself(rng: &mut Rng, mut result: Draft) -> Draft {
+    if result.kind.is_debit() && rng.once_in(2) {
+        let place = body_item(result.kind, 9);
+        for body in &mut result.bodies {
+            body[place.clone()].copy_from_slice(&passbook_text(rng, 16));
+        }
+    }
+    result
 }

@@ -170,6 +170,7 @@ fn in_words(class: &[String], size: u64, least: &str) -> String {
         ["digits"] => "only digits",
         ["free"] => "free text",
         ["passbook"] => "passbook text",
+        ["PassbookForm"] => "one of the three forms",
         ["CodeText"] => "code text",
         ["Filled"] => "filled code text",
         ["Owner"] => "code text, filled unless item 5 is \"3\"",
@@ -566,15 +567,17 @@ fn rules(row: &[&str], kind: &str, kinds: &[&str]) -> Vec<Rule> {
     found
 }
 
-const TEXTS: [&str; 7] = [
+const TEXTS: [&str; 8] = [
     "How to look a refusal up",
     "How to look a refusal of evidence up",
     "The words of the rules",
+    FORMS_TITLE,
     BLOCKS_TITLE,
     KINDS_TITLE,
     AGREEING_TITLE,
     DAY_TITLE,
 ];
+pub const FORMS_TITLE: &str = "The three forms of passbook text";
 const BLOCKS_TITLE: &str = "EI13: profiles and blocks";
 const KINDS_TITLE: &str = "EI13: kinds of evidence";
 const AGREEING_TITLE: &str = "EI13 beside EB13";
@@ -733,7 +736,7 @@ pub fn changed(text: &str, from: &str, to: &str) -> String {
 fn every_item_is_documented_as_it_is() {
     let library = library_as_it_is();
     let found: usize = library.values().map(Vec::len).sum();
-    assert!(library.len() >= 24 && found >= 336, "only {} records with {found} rules", library.len());
+    assert!(library.len() >= 24 && found >= 338, "only {} records with {found} rules", library.len());
     assert_eq!(differences(&library, &documented(&text("docs/ITEMS.md"))), Vec::<String>::new());
 }
 
@@ -784,6 +787,12 @@ fn a_wrong_item_is_seen() {
     assert_eq!(seen("EC21: an amount of at least", "an amount of at least").len(), 3);
     assert_eq!(seen("EC21: an amount of at least", "EC22: an amount of at least").len(), 2);
     assert_eq!(seen("EB21 and EC21: only spaces", "only spaces").len(), 2);
+    assert_eq!(seen("; EB21 and EC21: one of the three forms (0087)", "").len(), 2);
+    assert_eq!(seen("EB21 and EC21: one of the three forms", "one of the three forms").len(), 2);
+    assert_eq!(seen("EB21 and EC21: one of the three forms", "EB21: one of the three forms").len(), 1);
+    assert_eq!(seen("one of the three forms (0087)", "one of the three forms (0068)").len(), 2);
+    let [any, form] = ["passbook text (0068)", "EB21 and EC21: one of the three forms (0087)"];
+    assert_eq!(seen(&format!("{any}; {form}"), &format!("{form}; {any}")).len(), 2);
     assert_eq!(seen("at least 140 won,", "at least 139 won,").len(), 1);
     assert_eq!(seen("at least 300 won,", "at least 140 won,").len(), 1);
     assert_eq!(seen("EB22 and EC22: \"N\" and a table code, or", "EB22 and EC22: \"N\", or").len(), 2);
@@ -818,6 +827,12 @@ fn a_changed_table_is_seen() {
     assert_eq!(seen(TABLES, "row 15 129 21 spaces c0089", "row 15 129 21 spaces c0090"), 4);
     assert_eq!(seen(TABLES, "row 5 27 6 NameDate c0000", "row 5 27 6 NameDate c0088"), 6);
     assert_eq!(seen(TABLES, "c0075 = 0x30303735", "c0075 = 0x30303736"), 4);
+    assert_eq!(seen(TABLES, "row 9 73 16 PassbookForm c0087 ∷", ""), 2);
+    assert_eq!(seen(TABLES, "row 9 73 16 PassbookForm c0087", "row 9 73 16 PassbookForm c0068"), 2);
+    assert_eq!(
+        seen(TABLES, "FailedOrPart c0088) []", "FailedOrPart c0088) (row 9 73 16 PassbookForm c0087 ∷ [])"),
+        2
+    );
     assert_eq!(
         seen(
             TABLES,

@@ -62,7 +62,7 @@ pub(super) fn debit(amount: u64, debit_type: &str, payer: &str, result: &str) ->
         amount,
         "800101",
         result,
-        "HOSTING DUES",
+        "00HOSTING DUES",
         "",
         payer,
         "",
@@ -583,10 +583,10 @@ fn a12_a13_texts() {
     assert_eq!(read(EB13, &blank), answer(0, 4, 1, 6, "0098"));
     let blank = put("EB21", &one_debit(140, "0"), 1, 55, &[b' '; 13]);
     assert_eq!(read(EB21, &blank), accepted());
-    // Passbook text takes 20 and above, free text 20 to 7E.
+    // Passbook text takes 20 and above, free text 20 to 7E. (What requests ask beside that is in itself_passbook.rs.)
     let good = one_debit(140, "0");
     for byte in 0..=255u8 {
-        let passbook = read(EB21, &put("EB21", &good, 1, 80, &[byte]));
+        let passbook = read(EB22, &put("EB22", &sample("EB22"), 1, 80, &[byte]));
         let free = read(EB21, &put("EB21", &good, 1, 120, &[byte]));
         let wanted = if byte >= 0x20 { accepted() } else { answer(0, 4, 1, 9, "0068") };
         assert_eq!(passbook, wanted);

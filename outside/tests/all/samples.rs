@@ -1,5 +1,6 @@
 //! The samples for others: both implementations say what stands beside each, and so does the example in C.
 
+use super::passbook::{fits, Text, IN_RECORD, SHAPES};
 use outside::chars::spaces;
 use outside::layout::{is_centre_code, Kind};
 use outside::{
@@ -252,7 +253,7 @@ fn the_samples_are_many_enough() {
         let start = format!("refused 0 {number} ");
         assert!(any(false, &|s| s.expected.starts_with(&start)), "no file is refused with {number}");
     }
-    for code in "0011 0061 0068 0075 0081 0088 0089 0090 0098 9998 A011 A012".split(' ') {
+    for code in "0011 0061 0068 0075 0081 0087 0088 0089 0090 0098 9998 A011 A012".split(' ') {
         assert!(any(false, &|s| s.expected.ends_with(code)), "no file is refused with {code}");
     }
     for told in ["4 4 10 0088", "6 4 10 0000"] {
@@ -268,6 +269,7 @@ fn the_samples_are_many_enough() {
         "0 13 1 11",
         "0 13 1 6",
         "0 13 2 5",
+        "0 13 2 9",
         "0 14 1 6",
         "0 14 1 13",
         "2 2 0 0",
@@ -277,8 +279,12 @@ fn the_samples_are_many_enough() {
         let line = format!("refused {told} 0000");
         assert!(any(true, &|s| s.expected == line), "no pair is told {line}");
     }
-    // Where next-day and same-day debits part: the kind, the least amount, the base, and which files meet.
+    // Item 9 of both requests; and where next-day and same-day debits part: the kind, the least amount, the base, and which
+    // files meet.
     for (pair, kind, told) in [
+        (false, Kind::EB21, "4 1 9 0068"),
+        (false, Kind::EB21, "4 1 9 0087"),
+        (false, Kind::EC21, "4 3 9 0087"),
         (false, Kind::EB21, "4 1 13 0075"),
         (false, Kind::EC21, "4 1 13 0075"),
         (false, Kind::EB21, "5 0 4 0000"),
@@ -334,7 +340,14 @@ fn the_samples_of_evidence_are_many_enough() {
 fn the_samples_of_days_are_many_enough() {
     let samples = samples();
     let days = || samples.iter().filter(|sample| matches!(sample.files, Files::Day(_)));
-    for told in ["accepted", "refused 30 0 ", "refused 31 0 ", "refused 32 3 ", "refused 33 4 0 6 4 10 "] {
+    for told in [
+        "accepted",
+        "refused 30 0 ",
+        "refused 31 0 ",
+        "refused 32 3 ",
+        "refused 33 4 0 6 4 10 ",
+        "refused 33 2 0 4 2 9 0087",
+    ] {
         assert!(days().any(|sample| sample.expected.starts_with(told)), "no day file is told {told}");
     }
     for number in [1, 2, 4, 5, 6, 7] {
@@ -371,23 +384,46 @@ fn debits<'a>(sample: &'a Sample, kinds: [&[u8; 4]; 2]) -> Vec<(&'a [u8], &'a [u
 /// What the rules leave open today is chosen so that a stricter reading would not refuse it.
 #[test]
 fn the_samples_keep_stricter_rules_too() {
-    let mut seen = [0, 0];
+    let mut seen = 0;
     for sample in samples() {
-        for record in debits(&sample, [b"EB21", b"EC21"]).into_iter().flat_map(|(data, _)| data.chunks(150))
-        {
-            let passbook = &record[73..89];
-            let kept = passbook[2..].iter().all(|b| b.is_ascii_alphanumeric() || *b == b' ' || *b < 0x20);
-            assert!(passbook.starts_with(b"00") && kept, "passbook text of {}", sample.name);
-            seen[0] += 1;
-        }
         if let Files::Evidence(file) | Files::Consent(_, file) = &sample.files {
             for kind in kinds_of_evidence(sample.number, file) {
                 assert_ne!(kind, b'2', "evidence of {} that is not signed", sample.name);
-                seen[1] += 1;
+                seen += 1;
             }
         }
     }
-    assert!(seen[0] > 40 && seen[1] > 10, "{seen:?}");
+    assert!(seen > 10, "{seen}");
+}
+
+/// Item 9 of every EB21 and EC21 is in one of the three forms, whatever else is wrong with the sample, but for those that are
+/// refused at item 9; and accepted samples of both have every form.
+#[test]
+fn the_samples_have_passbook_texts_in_a_form() {
+    let mut seen = [0, 0];
+    let mut accepted: Vec<(&[u8; 4], Text)> = Vec::new();
+    for sample in samples() {
+        let refused_there = [" 9 0068", " 9 0087"].iter().any(|end| sample.expected.ends_with(end));
+        let mut texts = Vec::new();
+        for kind in [b"EB21", b"EC21"] {
+            let records = debits(&sample, [kind; 2]).into_iter().flat_map(|(data, _)| data.chunks(150));
+            let text = |record: &[u8]| record[IN_RECORD..][..16].try_into().expect("sixteen bytes");
+            texts.extend(records.map(|record| (kind, text(record))));
+        }
+        let in_a_form = texts.iter().all(|(_, text)| SHAPES.iter().any(|shape| fits(shape, text)));
+        assert_eq!(in_a_form, !refused_there, "passbook text of {}", sample.name);
+        seen[usize::from(in_a_form)] += texts.len();
+        if sample.expected.starts_with("accepted") {
+            accepted.extend(texts);
+        }
+    }
+    assert!(seen[0] > 10 && seen[1] > 60, "{seen:?}");
+    for (kind, shapes) in [(b"EB21", &SHAPES[..]), (b"EC21", &[SHAPES[0], SHAPES[1], SHAPES[4]])] {
+        for shape in shapes {
+            let there = accepted.iter().any(|(of, text)| *of == kind && fits(shape, text));
+            assert!(there, "no {} of the form {}", kind.escape_ascii(), shape.escape_ascii());
+        }
+    }
 }
 
 /// Item 10 of an EB22 or EC22 is the number of "N" records with a code of the centre, whatever else is wrong with the sample, but

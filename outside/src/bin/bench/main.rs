@@ -4,12 +4,15 @@
 mod arrivals;
 #[cfg(target_arch = "x86_64")]
 mod measures;
+#[cfg(target_arch = "x86_64")]
+mod passbook;
 
 fn main() {
     #[cfg(target_arch = "x86_64")]
     {
         measures::print();
         arrivals::print();
+        passbook::print();
     }
     #[cfg(not(target_arch = "x86_64"))]
     println!("the library is for x86-64, and its time is measured there only");

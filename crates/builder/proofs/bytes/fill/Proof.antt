@@ -61,6 +61,9 @@ enum-told-17 c = search needs
 enum-told-18 : tie.Need-enum-told-18
 enum-told-18 c = search needs
 
+enum-told-19 : tie.Need-enum-told-19
+enum-told-19 c = search needs
+
 returns : tie.Need-returns
 returns c = rw (c .before .before .class .given .1, eq-eqb _ _ (c .if1 .taken))
 
@@ -121,6 +124,9 @@ returns-19 c = rw (c .enum-told17 .given .1)
 returns-20 : tie.Need-returns-20
 returns-20 c = rw (c .enum-told18 .given .1)
 
+returns-21 : tie.Need-returns-21
+returns-21 c = rw (c .enum-told19 .given .1)
+
 pub fill-spec : {M : Type 1} → statement M
 fill-spec =
     tie.close
@@ -144,6 +150,7 @@ fill-spec =
     enum-told-16
     enum-told-17
     enum-told-18
+    enum-told-19
     returns
     returns-2
     returns-3
@@ -163,4 +170,5 @@ fill-spec =
     returns-17
     returns-18
     returns-19
-    returns-20)
+    returns-20
+    returns-21)

@@ -152,6 +152,12 @@ byte-requires c κs = search needs
 extension-requires : tie.Need-extension-requires
 extension-requires c κs = search needs
 
+enum-told-18 : tie.Need-enum-told-18
+enum-told-18 c = search needs
+
+passbook-form-requires : tie.Need-passbook-form-requires
+passbook-form-requires c κs = search needs
+
 returns : tie.Need-returns
 unfolding holds meets
 returns c = rw (c .before .before .class .given .1, ← c .before .before .before .before .part .ensures .0) (c .each .ensures)
@@ -232,6 +238,10 @@ returns-20 : tie.Need-returns-20
 unfolding holds meets
 returns-20 c = rw (c .before .before .enum-told17 .given .1, ← c .before .before .before .before .part .ensures .0, ← c .before .byte .ensures .0) (c .extension .ensures)
 
+returns-21 : tie.Need-returns-21
+unfolding holds meets
+returns-21 c = rw (c .before .enum-told18 .given .1, ← c .before .before .before .part .ensures .0) (c .passbook-form .ensures)
+
 pub holds-spec : {M : Type 1} → statement M
 holds-spec =
     tie.close
@@ -285,6 +295,8 @@ holds-spec =
     enum-told-17
     byte-requires
     extension-requires
+    enum-told-18
+    passbook-form-requires
     returns
     returns-2
     returns-3
@@ -304,4 +316,5 @@ holds-spec =
     returns-17
     returns-18
     returns-19
-    returns-20)
+    returns-20
+    returns-21)
