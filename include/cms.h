@@ -20,7 +20,8 @@
  *   answer[0] side    0 one file, or two as they meet; 1, 2 when the first or the second of two is refused by reading:
  *                     a request or its result, enrolments or their evidence
  *   answer[1] number  what was returned
- *   answer[2] record  header 0, data records 1 to n, trailer n + 1; 0 where there is no place
+ *   answer[2] record  header 0, data records 1 to n, trailer n + 1; 0 where there is no place; of number 43 the member,
+ *                     from 1
  *   answer[3] item    from 1; 0 where there is no place
  *   answer[4] code    the failure code of number 4; else "0000"
  * Of a day file it begins with seven:
@@ -39,7 +40,8 @@
  * evidence without an enrolment, 30 the form byte, the count, a length or the size of a day file's contents is wrong, 31
  * its bodies are not as long as the contents say, 32 the name of an earlier body, 33 a body is refused: as cms_read refuses
  * it, or with 1 where its name says no kind that goes in, or last with 5 at record 0, item 4, where its header has another
- * name. */
+ * name, 40 the date of a pair is not later than the last one posted, 41 a payer is not on the board, 42 more was taken of a
+ * payer than it owes, 43 the payer of an earlier member of the board. */
 #ifndef CMS_H
 #define CMS_H
 
@@ -62,8 +64,9 @@ extern "C" {
  * three forms: eight two-byte characters; "00" and fourteen one-byte ones; or "A", a digit k from 2 to 5, k two-byte
  * characters and 14 minus 2k one-byte ones. Both bytes of a two-byte character are hex A1 to FE; a one-byte character is a
  * letter, a digit or a space. Before, any bytes hex 20 or above did, so files written before may be refused now. EB22 and
- * EC22 are held to no form, as before. No function changed its parameters. */
-#define CMS_FACE 7
+ * EC22 are held to no form, as before. No function changed its parameters. 8: cms_board_post and struct cms_member came, and
+ * no other function changed. */
+#define CMS_FACE 8
 
 #define CMS_EB13 UINT32_C(0x45423133)
 #define CMS_EB14 UINT32_C(0x45423134)
@@ -141,6 +144,35 @@ uint64_t cms_end(uint32_t kind, uint64_t state[2], uint8_t *room, size_t room_le
  * unchanged. Returns 0, with nothing changed, when the text is too short: no output is empty. */
 uint64_t cms_post(const uint8_t *request, size_t request_length, const uint8_t *result, size_t result_length,
                   uint8_t *text, size_t text_length);
+
+/* A member of a board: the payer number, the won owed, and whether the member is paused (0) or running (1). */
+struct cms_member {
+    uint8_t payer[20];
+    uint64_t owed;
+    uint64_t state;
+};
+
+/* Posts a debit pair (CMS_EB21 or CMS_EC21) on a board of members, once for its day: what was taken of each payer by all its
+ * requests together goes off what it owes. The board is the members, one behind the other in any order, and board_length
+ * says how many they are; there may be none. The dates are those last posted, six bytes YYMMDD for next-day debits and then
+ * six for same-day ones, each "000000" before the first. No rule is asked of the dates or of the payers on the board; both
+ * are compared byte by byte. The board is lent to be changed, and so are the dates.
+ * It answers, in this order:
+ *   43  two members have one payer: the record is the first member, from 1, that repeats an earlier one's; item 0
+ *   as cms_pair with lists that are long enough; but enrolment is 1, as every pair that is unknown
+ *   40  the date of the request is not later than the one last posted of its sort, so the same pair is posted only once:
+ *       record 0, item 5
+ *   41  a payer of the request is not on the board, even if nothing was taken of it: the request's record, item 11
+ *   42  more was taken of a payer, by all its requests together, than it owes: the request's record, item 11
+ * Of 41 and 42 it tells the one of the first request whose payer has either; so 42 is told at the payer's first request.
+ * On success, of every member whose payer a request names, what it owes is less by what was taken, and the state is 1 where
+ * nothing is owed any more and else 0, whatever it was and even if nothing was taken. Members that are not named are
+ * unchanged, also where their state is neither 0 nor 1. The six bytes of the sort become the date of the request, also where
+ * there is no request, and the other six are unchanged. On a refusal members and dates are as they were. The bytes that lie
+ * unused in a member are never asked, and nothing is said of them afterwards; so compare members field by field. */
+uint64_t cms_board_post(uint32_t pair, const uint8_t *request, size_t request_length, const uint8_t *result,
+                        size_t result_length, struct cms_member *board, size_t board_length, uint8_t dates[12],
+                        uint64_t answer[5]);
 
 /* Reads a file of consent evidence, EI13: blocks of 1,024 bytes, of which the first is the header and the last the
  * trailer, and between them data records of as many blocks as their evidence wants. */

@@ -3,7 +3,8 @@
  * All numbers are 64 bits, little-endian. Both ways go batches: the length of what follows, and then one call or answer
  * after another.
  *   a call:     its number (enum below), and its parameters in the order of cms.h but for the answer: a number as it is,
- *               a slice as its length in bytes and then its bytes
+ *               a slice as its length in bytes and then its bytes; a board is a slice of members without the bytes that
+ *               lie unused in each
  *   an answer:  0, or what was changed that may not be (see `changed`); what the call returned; and all memory that was
  *               lent to be written, whole, in the order of the parameters, the answer last
  *   PAINTED before a call makes it on a stack of its own; how many bytes of that were touched comes after the answer
@@ -20,7 +21,7 @@
 
 enum { READ, WRITE, PAIR, OUTCOME, WALK, POST, APART, TOUCH, DIG, PAINTED,
        EVIDENCE_READ, EVIDENCE_PART, EVIDENCE_WRITE, EVIDENCE_COMPARE,
-       DAY_READ, DAY_BODY, DAY_WRITE, PART, END, ARRIVE };
+       DAY_READ, DAY_BODY, DAY_WRITE, PART, END, ARRIVE, BOARD_POST };
 
 #define THERE UINT64_C(0x636d735f66616365)
 
@@ -32,11 +33,12 @@ enum { READ, WRITE, PAIR, OUTCOME, WALK, POST, APART, TOUCH, DIG, PAINTED,
 #define WATCHED ((size_t)64)
 #define MOST 8
 
-/* What was lent: place, length, and the bytes that it held before where they may not change. */
+/* What was lent: place, length, the bytes that it held before where they may not change, and whether it is a board. */
 static struct lent {
     uint8_t *end, *start;
     size_t length;
     const uint8_t *before;
+    int is_board;
 } lent[MOST];
 static size_t lent_count;
 
@@ -112,6 +114,7 @@ static struct lent *lend(size_t length) {
     one->start = one->end - length;
     one->length = length;
     one->before = NULL;
+    one->is_board = 0;
     memcpy(one->start - WATCHED, watched, WATCHED);
     return one;
 }
@@ -143,6 +146,33 @@ static struct lent *to_write(struct lent *one) {
     return one;
 }
 
+/* How many bytes of a member are sent: payer, owed, state. */
+#define SENT ((size_t)36)
+
+/* A board to be written. The bytes of a member that say nothing hold something else in each. */
+static void board(void) {
+    size_t count = number() / SENT;
+    const uint8_t *sent = taken_from_call(count * SENT);
+    struct lent *one = lend(count * sizeof(struct cms_member));
+    struct cms_member *members = (struct cms_member *)(void *)one->start;
+    for (size_t i = 0; i < count; i++, sent += SENT) {
+        memset(&members[i], (int)(i % 251), sizeof members[i]);
+        memcpy(members[i].payer, sent, 20);
+        memcpy(&members[i].owed, sent + 20, 8);
+        memcpy(&members[i].state, sent + 28, 8);
+    }
+    one->is_board = 1;
+}
+
+static void answer_with_board(const struct lent *one) {
+    const struct cms_member *members = (const struct cms_member *)(const void *)one->start;
+    for (size_t i = 0; i < one->length / sizeof members[i]; i++) {
+        answer_with(members[i].payer, 20);
+        answer_number(members[i].owed);
+        answer_number(members[i].state);
+    }
+}
+
 /* Numbers that no answer has. */
 static void an_answer(size_t numbers) {
     uint64_t *first = (uint64_t *)(void *)lend(numbers * sizeof(uint64_t))->start;
@@ -171,6 +201,7 @@ static uint64_t given, also;
 #define BYTES(i) lent[i].start, lent[i].length
 #define LIST(i) NUMBERS(i), lent[i].length / sizeof(uint64_t)
 #define NUMBERS(i) (uint64_t *)(void *)lent[i].start
+#define MEMBERS(i) (struct cms_member *)(void *)lent[i].start, lent[i].length / sizeof(struct cms_member)
 
 static uint64_t call_read(void) { return cms_read(kind, BYTES(0), NUMBERS(1)); }
 static uint64_t call_write(void) {
@@ -192,6 +223,9 @@ static uint64_t call_day_body(void) { return cms_day_body(BYTES(0), given, NUMBE
 static uint64_t call_day_write(void) { return cms_day_write(BYTES(0), LIST(1), BYTES(2), BYTES(3), NUMBERS(4)); }
 static uint64_t call_part(void) { return cms_part(NUMBERS(0), BYTES(1), BYTES(2)); }
 static uint64_t call_end(void) { return cms_end(kind, NUMBERS(0), BYTES(1), NUMBERS(2)); }
+static uint64_t call_board_post(void) {
+    return cms_board_post(kind, BYTES(0), BYTES(1), MEMBERS(2), lent[3].start, NUMBERS(4));
+}
 
 /* A whole arrival with nothing lent anew on the way: parts of the file as long as the list says, each with what it returned
  * and the state behind it, and then the end. */
@@ -223,7 +257,7 @@ static uint64_t call_dig(void) {
 
 /* The first parameter is a kind, pair or profile. */
 static int is_by_kind(uint64_t which) {
-    if (which == END || which == ARRIVE) return 1;
+    if (which == END || which == ARRIVE || which == BOARD_POST) return 1;
     return which != POST && which != TOUCH && which != DIG && which < DAY_READ;
 }
 
@@ -259,6 +293,7 @@ static function prepared(uint64_t which) {
     case ARRIVE:
         to_write(slice()); to_write(slice()); slice(); slice(); to_write(slice()); an_answer(5);
         return call_arrive;
+    case BOARD_POST: slice(); slice(); board(); to_write(slice()); an_answer(5); return call_board_post;
     case TOUCH: slice(); given = number(); also = number(); return call_touch;
     case DIG: given = number(); return call_dig;
     default: fail("the bridge was asked for a function that it does not know\n"); return NULL;
@@ -309,8 +344,10 @@ static void answer_call(void) {
     uint64_t returned = paint ? called_on_paint(call, &touched) : call();
     answer_number(changed());
     answer_number(returned);
-    for (size_t i = 0; i < lent_count; i++)
-        if (!lent[i].before) answer_with(lent[i].start, lent[i].length);
+    for (size_t i = 0; i < lent_count; i++) {
+        if (lent[i].is_board) answer_with_board(&lent[i]);
+        else if (!lent[i].before) answer_with(lent[i].start, lent[i].length);
+    }
     if (paint) answer_number(touched);
 }
 

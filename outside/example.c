@@ -2,13 +2,18 @@
  * The same with the file taken in two parts, as one that still arrives: example PARTS EB21 FILE
  * Of consent evidence it also prints where each lies, as record, first byte and length: example EI13 FILE
  * Of a day file it also prints where each body lies, as body, name, first byte and length: example DAY FILE
- * Compares enrolments with the evidence for them: example EB13 FILE EI13 FILE */
+ * Compares enrolments with the evidence for them: example EB13 FILE EI13 FILE
+ * Posts a debit pair on a board of members, each a payer and the won owed, and prints the members as they are then, and the
+ * dates last posted: example BOARD EB21 FILE FILE 2024000001 30000 2024000002 500 */
 #include "cms.h"
 #include <inttypes.h>
 #include <stdio.h>
+#include <stdlib.h>
 #include <string.h>
 
 #define ORDINARY 0
+/* The most that the words of a call may name. A board may have any number of members. */
+#define MEMBERS 100
 
 struct file {
     size_t length;
@@ -95,6 +100,28 @@ static int read_day(void) {
     return refused;
 }
 
+/* Nothing was posted before, and all members are paused. */
+static int post(const char *letters, char **words, size_t members) {
+    static struct cms_member board[MEMBERS];
+    uint8_t dates[12];
+    uint64_t answer[5];
+    memset(dates, '0', sizeof dates);
+    for (size_t i = 0; i < members; i++, words += 2) {
+        size_t length = strlen(words[0]);
+        memset(board[i].payer, ' ', sizeof board[i].payer);
+        memcpy(board[i].payer, words[0], length < 20 ? length : 20);
+        board[i].owed = strtoull(words[1], NULL, 10);
+    }
+    cms_board_post(kind_of(letters), one.bytes, one.length, other.bytes, other.length, board, members, dates, answer);
+    int refused = print_five(answer);
+    for (size_t i = 0; i < members && !refused; i++) {
+        printf("%.20s %" PRIu64, (const char *)board[i].payer, board[i].owed);
+        puts(board[i].state == 1 ? " running" : " paused");
+    }
+    if (!refused) printf("%.6s %.6s\n", (const char *)dates, (const char *)&dates[6]);
+    return refused;
+}
+
 int main(int count, char **words) {
     if (count == 3 && strcmp(words[1], "DAY") == 0 && take(words[2], &one)) return read_day();
     if (count == 4 && strcmp(words[1], "PARTS") == 0 && strlen(words[2]) == 4 && take(words[3], &one))
@@ -104,8 +131,12 @@ int main(int count, char **words) {
     if (count == 5 && strcmp(words[1], "EB13") == 0 && strcmp(words[3], "EI13") == 0 && take(words[2], &one) &&
         take(words[4], &other))
         return compare();
-    fputs("usage: example KIND FILE, example PARTS KIND FILE, example DAY FILE, or example EB13 FILE EI13 FILE;\n"
-          "files of no more than 4,098 KB that can be read\n",
+    if (count >= 5 && count % 2 == 1 && count <= 5 + 2 * MEMBERS && strcmp(words[1], "BOARD") == 0 &&
+        strlen(words[2]) == 4 && take(words[3], &one) && take(words[4], &other))
+        return post(words[2], words + 5, (size_t)(count - 5) / 2);
+    fputs("usage: example KIND FILE, example PARTS KIND FILE, example DAY FILE, example EB13 FILE EI13 FILE, or\n"
+          "example BOARD KIND FILE FILE and a payer and won for each member; files of no more than 4,098 KB that can be\n"
+          "read, and no more than 100 members\n",
           stderr);
     return 2;
 }

@@ -28,11 +28,17 @@ pub enum Operation {
     Part,
     /// The end of one.
     End(Option<Kind>),
+    /// A pair is posted on the board.
+    Board(Option<PairKind>),
 }
 
 impl Operation {
     pub fn is_of_arrival(&self) -> bool {
         matches!(self, Operation::Part | Operation::End(_))
+    }
+
+    pub fn is_of_the_board(&self) -> bool {
+        matches!(self, Operation::Board(_))
     }
 
     pub fn is_of_evidence(&self) -> bool {
@@ -49,6 +55,8 @@ pub enum Part {
     Header,
     Data,
     Trailer,
+    /// A member of the board.
+    Member,
     /// A record number past the trailer: no answer may have it.
     Outside,
 }
@@ -148,6 +156,12 @@ const EVIDENCE_WRITTEN_DATA: Rows = "6:0098 7:0088 8:0098 9:9998 10:0101 11:0102
 const EVIDENCE_HEADERS: Rows = "12@3 12@5";
 const EVIDENCE_MISSING_OR_FOREIGN: Rows = "20@6 21@6";
 
+// The board.
+
+const POSTED_HEADER: Rows = "40@5";
+const POSTED_DATA: Rows = "41@11 42@11";
+const REPEATED_MEMBER: Rows = "43@0";
+
 /// Every answer that the rules can give.
 pub fn all() -> Vec<Entry> {
     let mut list = List::default();
@@ -190,6 +204,9 @@ pub fn all() -> Vec<Entry> {
         list.reading(Operation::End(Some(kind)), 0, kind);
     }
     list.placeless(Operation::End(None), 0, &[1, 9]);
+    for pair in PairKind::ALL.map(Some).into_iter().chain([None]) {
+        list.posting(pair);
+    }
     list.0
 }
 
@@ -283,14 +300,32 @@ impl List {
         self.rows(operation, 0, Part::Header, headers);
         self.rows(operation, 0, Part::Data, results);
     }
+
+    /// A board has debits only.
+    fn posting(&mut self, pair: Option<PairKind>) {
+        let operation = Operation::Board(pair);
+        self.rows(operation, 0, Part::Member, REPEATED_MEMBER);
+        match pair {
+            None | Some(PairKind::Enrolment) => self.placeless(operation, 0, &[1]),
+            Some(debit) => {
+                self.placeless(operation, 0, &[0]);
+                self.pairing(operation, debit);
+                self.rows(operation, 0, Part::Header, POSTED_HEADER);
+                self.rows(operation, 0, Part::Data, POSTED_DATA);
+            }
+        }
+    }
 }
 
 /// The entry of an answer; `n` is how many data records the file has that the
-/// answer points into.
+/// answer points into, or how many members the board.
 pub fn entry(operation: Operation, answer: &Answer, n: u64) -> Entry {
     let part = match (answer.number, answer.record) {
         (0..=3 | 8..=10 | 15, 0) => Part::None,
-        (4..=7 | 12..=14, 0) => Part::Header,
+        (4..=7 | 12..=14 | 40, 0) => Part::Header,
+        // The first member repeats nobody.
+        (43, 2..) if answer.record <= n => Part::Member,
+        (43, _) => Part::Outside,
         (_, record) if record <= n => Part::Data,
         (_, record) if record == n + 1 => Part::Trailer,
         _ => Part::Outside,

@@ -20,7 +20,8 @@
 //! * [`post`](mod@post): the posting program's output;
 //! * [`evidence`]: consent evidence is read, written, and compared with enrolments;
 //! * [`day`]: a day file is read, asked for its bodies, and written;
-//! * [`arrival`]: a file is read while it arrives, part by part.
+//! * [`arrival`]: a file is read while it arrives, part by part;
+//! * [`board`]: a debit pair is posted on the members' board.
 //!
 //! For the comparison:
 //!
@@ -35,6 +36,7 @@
 
 pub mod apart;
 pub mod arrival;
+pub mod board;
 pub mod bridge;
 pub mod chars;
 mod checked;
@@ -58,6 +60,7 @@ pub mod write;
 
 pub use apart::apart;
 pub use arrival::{end_at, part_at, Arrival};
+pub use board::{board_post, Dates, Member};
 pub use day::{day_body, day_read, day_write};
 pub use evidence::{evidence_compare, evidence_part, evidence_read, evidence_write};
 pub use model::{

@@ -1,6 +1,7 @@
 //! The proved library linked into this program, with nothing copied and nothing watched, to measure its time. The archive
 //! is for x86-64.
 
+use crate::board::{Dates, Member};
 use crate::proved::{DayParts, EvidenceParts, Parts};
 
 extern "C" {
@@ -75,6 +76,17 @@ extern "C" {
         part_length: usize,
     ) -> u64;
     fn cms_end(kind: u32, state: *mut u64, room: *mut u8, room_length: usize, answer: *mut u64) -> u64;
+    fn cms_board_post(
+        pair: u32,
+        request: *const u8,
+        request_length: usize,
+        result: *const u8,
+        result_length: usize,
+        board: *mut Member,
+        board_length: usize,
+        dates: *mut u8,
+        answer: *mut u64,
+    ) -> u64;
 }
 
 pub fn read(kind: u32, file: &[u8]) -> [u64; 5] {
@@ -213,5 +225,31 @@ pub fn end(kind: u32, state: &mut [u64; 2], room: &mut [u8]) -> [u64; 5] {
     let mut answer = [0; 5];
     // Safe: each pointer is good for the length that stands beside it, till the call returns; a state has two numbers.
     unsafe { cms_end(kind, state.as_mut_ptr(), room.as_mut_ptr(), room.len(), answer.as_mut_ptr()) };
+    answer
+}
+
+pub fn board_post(
+    pair: u32,
+    request: &[u8],
+    result: &[u8],
+    board: &mut [Member],
+    dates: &mut Dates,
+) -> [u64; 5] {
+    let mut answer = [0; 5];
+    // Safe: each pointer is good for the length that stands beside it, till the call returns; a member lies in memory as in
+    // C, and the dates have twelve bytes.
+    unsafe {
+        cms_board_post(
+            pair,
+            request.as_ptr(),
+            request.len(),
+            result.as_ptr(),
+            result.len(),
+            board.as_mut_ptr(),
+            board.len(),
+            dates.as_mut_ptr(),
+            answer.as_mut_ptr(),
+        )
+    };
     answer
 }

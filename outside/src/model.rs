@@ -33,7 +33,8 @@ impl Answer {
         Answer::placed(number, 0, 0)
     }
 
-    /// A number with record and item, and no code: 5, 6, 7, 12, 13, 14, 20, 21.
+    /// A number with record and item, and no code: 5, 6, 7, 12, 13, 14, 20, 21, 40, 41, 42; and 43, whose record is a
+    /// member and whose item is 0.
     pub fn placed(number: u64, record: usize, item: usize) -> Answer {
         Answer { side: 0, number, record: record as u64, item: item as u64, code: NO_CODE }
     }

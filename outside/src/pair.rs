@@ -42,13 +42,24 @@ fn asked(outcomes: &[Outcome], record: u64) -> Option<Outcome> {
 /// places for them.
 pub fn settle(pair: u32, request: &[u8], result: &[u8], places: usize) -> Result<Vec<Outcome>, Answer> {
     let pair = PairKind::known(pair).ok_or(Answer::without_place(1))?;
+    Ok(meet(pair, request, result, places)?.1)
+}
+
+/// The same with the request's records.
+pub(crate) fn meet<'a>(
+    pair: PairKind,
+    request: &'a [u8],
+    result: &[u8],
+    places: usize,
+) -> Result<(Records<'a>, Vec<Outcome>), Answer> {
     let request = open(pair.request().number(), request).map_err(|answer| answer.on_side(1))?;
     let result = open(pair.result().number(), result).map_err(|answer| answer.on_side(2))?;
     compare_headers(pair, &request, &result)?;
     if places < request.data.len() {
         return Err(Answer::without_place(8));
     }
-    settle_records(pair, &request, &result)
+    let outcomes = settle_records(pair, &request, &result)?;
+    Ok((request, outcomes))
 }
 
 /// Number 12.

@@ -2,6 +2,7 @@
 //!
 //! For each function there is the [`Call`] of it, and one that makes a single call and panics where a promise was broken.
 
+use crate::board::{Dates, Member};
 use crate::bridge::{ask, Breach, Call, Function, Said};
 
 const READ: Function = Function { number: 0, lent: &["the file", "the answer"] };
@@ -42,6 +43,9 @@ const ARRIVE: Function = Function {
     number: 19,
     lent: &["the state", "the room", "the file", "the lengths", "what is said of the parts", "the answer"],
 };
+
+const BOARD_POST: Function =
+    Function { number: 20, lent: &["the request", "the result", "the board", "the dates", "the answer"] };
 
 /// What a file is written from.
 #[derive(Clone, Copy)]
@@ -150,6 +154,18 @@ impl Call {
         assert_eq!(total, file.len() as u64, "the parts are the file");
         let lent = Call::of(&ARRIVE).number(kind.into()).list(&[0, 0]).room(room).slice(file);
         lent.numbers(lengths).list(&vec![UNSAID; 3 * lengths.len()]).answer(5)
+    }
+
+    pub fn board_post(pair: u32, request: &[u8], result: &[u8], board: &[Member], dates: &Dates) -> Call {
+        let files = Call::of(&BOARD_POST).number(pair.into()).slice(request).slice(result);
+        files.room(&sent(board)).room(dates).answer(5)
+    }
+}
+
+impl Said {
+    /// Then these members were left on the board.
+    pub fn board(self, board: &[Member]) -> Said {
+        self.bytes(&sent(board))
     }
 }
 
@@ -266,6 +282,45 @@ fn take_arrival(said: &Said, state: &mut [u64; 2], room: &mut [u8]) {
     let (numbers, rest) = said.written.split_at(16);
     *state = Said::new(0).bytes(numbers).as_numbers().try_into().expect("a state has two numbers");
     room.copy_from_slice(&rest[..room.len()]);
+}
+
+/// The answer of the proved posting, which changes the board and the dates as its face says.
+pub fn board_post(
+    pair: u32,
+    request: &[u8],
+    result: &[u8],
+    board: &mut [Member],
+    dates: &mut Dates,
+) -> [u64; 5] {
+    let said = kept(ask(&Call::board_post(pair, request, result, board, dates)));
+    let (members, rest) = said.written.split_at(SENT * board.len());
+    board.copy_from_slice(&received(members));
+    *dates = rest[..12].try_into().expect("two dates");
+    kept(told(&said))
+}
+
+/// How many bytes of a member go through the bridge.
+const SENT: usize = 36;
+
+/// Members as they go there: payer, owed, state, and nothing of what lies unused between them.
+fn sent(board: &[Member]) -> Vec<u8> {
+    let mut bytes = Vec::with_capacity(SENT * board.len());
+    for Member { payer, owed, state } in board {
+        bytes.extend_from_slice(payer);
+        bytes.extend_from_slice(&owed.to_le_bytes());
+        bytes.extend_from_slice(&state.to_le_bytes());
+    }
+    bytes
+}
+
+/// Members as they come back.
+pub fn received(bytes: &[u8]) -> Vec<Member> {
+    let member = |bytes: &[u8]| {
+        let (payer, numbers) = bytes.split_at(20);
+        let numbers = Said::new(0).bytes(numbers).as_numbers();
+        Member { payer: payer.try_into().expect("20 bytes"), owed: numbers[0], state: numbers[1] }
+    };
+    bytes.chunks_exact(SENT).map(member).collect()
 }
 
 /// The numbers of an answer, which is lent last: the second of them was returned, too.

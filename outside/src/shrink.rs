@@ -98,8 +98,15 @@ fn smaller_day(mut day: DayDraft, shows: impl Fn(&[u8]) -> bool) -> DayDraft {
     day
 }
 
+/// Drops members of a list until none more can go.
+pub fn shrink_list<T: Clone>(list: &[T], shows: impl Fn(&[T]) -> bool) -> Vec<T> {
+    let mut list = list.to_vec();
+    drop_runs(&mut list, 1, |rest| shows(&rest).then_some(rest));
+    list
+}
+
 /// Drops runs of units, half of the file first, then shorter ones; `good` hands back a rest that will do.
-fn drop_runs(file: &mut Vec<u8>, unit: usize, good: impl Fn(Vec<u8>) -> Option<Vec<u8>>) {
+fn drop_runs<T: Clone>(file: &mut Vec<T>, unit: usize, good: impl Fn(Vec<T>) -> Option<Vec<T>>) {
     let mut run = (file.len() / unit / 2).max(1);
     while run > 0 {
         let mut at = 0;
@@ -137,6 +144,13 @@ mod tests {
     fn bytes_are_dropped_where_the_kind_is_unknown() {
         let smallest = shrink(None, b"a file with one Z in it", |file| file.contains(&b'Z'));
         assert_eq!(smallest, b"Z");
+    }
+
+    #[test]
+    fn two_members_of_many_are_found() {
+        let list: Vec<u64> = (0..1_000).map(|place| place % 999).collect();
+        let repeats = |list: &[u64]| (1..list.len()).any(|last| list[..last].contains(&list[last]));
+        assert_eq!(shrink_list(&list, repeats), [0, 0]);
     }
 
     #[test]

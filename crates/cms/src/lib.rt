@@ -1,5 +1,6 @@
 // The face for C: numbers and slices in, numbers out. No rule of its own.
 pub mod arrive;
+pub mod of_boards;
 pub mod of_days;
 pub mod of_evidence;
 pub mod pairs;

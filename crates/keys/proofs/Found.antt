@@ -1,13 +1,31 @@
--- Where each of some keys stands among others: what stands at a place of `placesIn`.
+-- Which key is the one looked for, and where each of some keys stands among others: what stands at a place of `placesIn`.
 -- Assumes nothing.
 use Prim.Native.Nat.{ℕ, _≤_, _<_}
+use mathlib.Core.Bool.{true, false}
 use mathlib.Core.List.{List}
+use mathlib.Core.Logic.{⊎-elim}
 use mathlib.Core.Path.{_≡_, _∙_}
 use native.Mathlib.Nat.{le-trans}
 use borrow.Author.Tests.{lt-ltb, le-ltb}
 use lib.ListN.{length, getD}
+use Rattle.laws.specs.Part.{same}
+use Rattle.laws.proofs.Bools.{either}
+use Rattle.laws.proofs.Parts.{same-equal, same-self}
 use Rattle.laws.proofs.Tabs.{tab-at, tab-length}
-use Rattle.keys.specs.Keys.{placeIn, placeFor, placesIn}
+use Rattle.keys.specs.Keys.{hasKeyIn, placeIn, placeFor, placesIn}
+
+-- a key is the one that is looked for, or another
+pub has-key : (key : ℕ → List ℕ) (one : List ℕ) (i : ℕ) → key i ≡ one → hasKeyIn key one i ≡ true
+unfolding hasKeyIn
+has-key key one i e = rw e (same-self one)
+
+pub has-other : (key : ℕ → List ℕ) (one : List ℕ) (i : ℕ) → (key i ≡ one → ⊥) → hasKeyIn key one i ≡ false
+unfolding hasKeyIn
+has-other key one i ne = ⊎-elim (λ t. absurd (ne (same-equal (key i) one t))) (λ f. f) (either (same (key i) one))
+
+pub key-has : (key : ℕ → List ℕ) (one : List ℕ) (i : ℕ) → hasKeyIn key one i ≡ true → key i ≡ one
+unfolding hasKeyIn
+key-has key one i t = same-equal (key i) one t
 
 module _ (key : ℕ → List ℕ) (n : ℕ) (other : ℕ → List ℕ) (m : ℕ) where
   pub place-here : (j : ℕ) → j < m → placeFor key n other m j ≡ placeIn key n (other j)

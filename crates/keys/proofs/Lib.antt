@@ -6,3 +6,4 @@ pub mod Found
 pub mod Spaced
 pub mod Steps
 pub mod Distinct
+pub mod Chained

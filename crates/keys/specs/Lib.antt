@@ -2,3 +2,4 @@
 pub mod Keys
 pub mod Stands
 pub mod Hashes
+pub mod Chains

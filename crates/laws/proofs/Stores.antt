@@ -2,13 +2,16 @@
 -- Assumes nothing.
 use Prim.Native.Nat.{ℕ, _+_, _-_, _≤_, _<_}
 use mathlib.Core.List.{List, [], _++_, append-assoc, append-nil}
-use mathlib.Core.Path.{_≡_, sym, _∙_}
+use mathlib.Core.Path.{_≡_, sym, _∙_, ap}
 use native.Mathlib.Nat.{le-refl, le-of-eq, add-assoc, zero-add, add-zero}
 use native.Mathlib.Numerals.{add-one}
+use native.Mathlib.Omega.{arith}
 use lib.ListN.{length, getD, set, take, drop, length-append, length-drop, drop-of-length-le, take-append-drop}
-use lib.Seq.{paste, paste-suc, take-length, take-at, drop-append-add, drop-drop, length-take-le}
+use lib.Seq.{paste, paste-suc, take-length, take-at, take-all, drop-at, drop-append-add, drop-drop, length-take-le}
+use Rattle.laws.specs.Part.{part}
 use Rattle.laws.specs.Stored.{stored}
-use Rattle.laws.proofs.Parts.{rest}
+use Rattle.laws.proofs.Parts.{rest, part-take}
+use Rattle.laws.proofs.Pieces.{part-within, part-behind}
 
 -- all from a place on, with something copied to its front, is what is stored at the place
 pub copied :
@@ -60,3 +63,36 @@ paste-more old x text at i v e q fits inside = rw (e, q, add-one) (paste-suc old
 
 pub paste-all : (old x text : List ℕ) (at i : ℕ) → text ≡ paste old at x i → length x ≡ i → text ≡ stored at x old
 paste-all old x text at i e l = e ∙ rw (← l, take-length x)
+
+-- what is stored is read back, and all before and behind it is as it was
+module _ (at : ℕ) (x old : List ℕ) (fits : at + length x ≤ length old) where
+  taken : length (take at old) ≡ at
+  taken = length-take-le at old (omega arith)
+
+  front : length (take at old ++ x) ≡ at + length x
+  front = length-append (take at old) x ∙ rw taken
+
+  -- a lent list stays as long as it is
+  pub stored-length : length (stored at x old) ≡ length old
+  stored-length = length-append (take at old ++ x) (drop (at + length x) old) ∙ rw (front, length-drop) (omega arith)
+
+  pub stored-here : (w : ℕ) → length x ≡ w → part at w (stored at x old) ≡ x
+  unfolding part
+  stored-here w e =
+      let f = front in
+      part-within (take at old ++ x) (drop (at + length x) old) at w (omega arith) ∙
+      (ap (take w) (drop-at (take at old) x at taken) ∙ take-all w x (omega arith))
+
+  pub stored-before : (a c : ℕ) → a + c ≤ at → part a c (stored at x old) ≡ part a c old
+  stored-before a c h =
+      let f = front in
+      let t = taken in
+      part-within (take at old ++ x) (drop (at + length x) old) a c (omega arith) ∙
+      (part-within (take at old) x a c (omega arith) ∙ part-take a c at old h (omega arith))
+
+  pub stored-behind : (a c : ℕ) → at + length x ≤ a → part a c (stored at x old) ≡ part a c old
+  unfolding part
+  stored-behind a c h =
+      let n = at + length x in
+      let e : a ≡ n + (a - n) = omega arith in
+      rw e (part-behind (take at old ++ x) (drop n old) n (a - n) c front ∙ ap (take c) (drop-drop (a - n) n old))

@@ -112,3 +112,10 @@ unfolding sum
 sum-up f zero i h = absurd (not-suc-le-zero h)
 sum-up f (suc n) i h =
     ⊎-elim (λ e. rw e (le-refl (sum f n + f n))) (λ l. le-trans (sum-up f n i l) (le-add-right (sum f n) (f n))) (eq-or-lt-of-le (le-of-suc-le-suc h))
+
+-- rows first or columns first
+pub sum-swap : (f : ℕ → ℕ → ℕ) (n m : ℕ) → sum (λ i. sum (f i) m) n ≡ sum (λ j. sum (λ i. f i j) n) m
+unfolding sum
+sum-swap f zero m = sym (sum-zero (λ j. sum (λ i. f i j) zero) m (λ j h. refl))
+sum-swap f (suc n) m =
+    sym (sum-add (λ j. sum (λ i. f i j) n) (f n) (λ j. sum (λ i. f i j) (suc n)) m (λ j h. refl) ∙ ap (λ (x : ℕ). x + sum (f n) m) (sym (sum-swap f n m)))

@@ -5,6 +5,7 @@
 //! and then spoiled in many ways.  The same seed gives the same inputs.
 
 mod arrivals;
+mod boards;
 mod day_changed;
 mod day_draft;
 mod day_files;
@@ -43,6 +44,7 @@ mod units;
 mod writes;
 
 pub use arrivals::{any_arrival_room, any_cutting, any_state, kept_edges, longest_file, past_edges};
+pub use boards::{any_board_post, any_member, board_for, named_payers, BoardInput};
 pub use day_draft::{DayDraft, NamedBody};
 pub use day_files::any_day;
 pub use day_good::{day_of, good_day, name_of};

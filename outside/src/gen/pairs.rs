@@ -13,6 +13,11 @@ use crate::layout::{Kind, PairKind};
 /// A pair kind, a request and a result.
 pub fn any_pair(rng: &mut Rng) -> (u32, Vec<u8>, Vec<u8>) {
     let pair = rng.pick(&PairKind::ALL);
+    any_pair_of(rng, pair)
+}
+
+/// The same, mostly of this pair kind.
+pub(super) fn any_pair_of(rng: &mut Rng, pair: PairKind) -> (u32, Vec<u8>, Vec<u8>) {
     let (mut request, mut result) = any_two_files(rng, pair);
     match rng.below(300) {
         0 => request = any_bytes(rng, pair.request()),

@@ -1617,7 +1617,8 @@ struct Run {
 #[test]
 fn generated_inputs() {
     let (seed, count) = (settings::seed(), settings::count(100_000));
-    let counter = Counter::of(|operation| !operation.is_of_evidence() && !operation.is_of_arrival());
+    let counter =
+        Counter::of(|one| !one.is_of_evidence() && !one.is_of_arrival() && !one.is_of_the_board());
     let mut run = Run { rng: Rng::new(seed), counter, seen: Seen::default() };
     for input in 0..count {
         match input % 5 {

@@ -487,7 +487,22 @@ fn the_example_in_c_says_the_same() {
     }
 }
 
-/// What the example is told of a sample; it knows no pairs and only ordinary institutions.
+/// The payers of every accepted pair of debits.
+const PAYERS: [&str; 3] = ["2024001", "2024002", "2024003"];
+/// What each of them still owes when the pair has been posted.
+const LEFT: [u64; 3] = [0, 1, 500];
+
+/// What was taken of each, which is nothing where the pair is refused.
+fn taken(sample: &Sample) -> [u64; 3] {
+    let list = sample.expected.strip_prefix("accepted taken ").and_then(|rest| rest.split_once(" not "));
+    let won = |word: &str| word.parse().expect("a number of won");
+    list.map_or([0; 3], |(list, _)| {
+        let won: Vec<u64> = list.split(' ').map(won).collect();
+        won.try_into().expect("three requests")
+    })
+}
+
+/// What the example is told of a sample; it posts pairs of debits on a board, and knows only ordinary institutions.
 fn words(sample: &Sample) -> Option<Vec<OsString>> {
     let of = |word: &str, ending: &str| [word.into(), sample.path(ending).into()];
     match sample.files {
@@ -500,14 +515,42 @@ fn words(sample: &Sample) -> Option<Vec<OsString>> {
         Files::Consent(..) if sample.number == ORDINARY => {
             Some([of("EB13", "enrolments"), of("EI13", "evidence")].concat())
         }
+        Files::Pair(..) if Kind::known(sample.number).is_some_and(Kind::is_debit) => {
+            let kind = sample.number.to_be_bytes();
+            let mut words: Vec<OsString> = vec!["BOARD".into()];
+            words.extend(of(std::str::from_utf8(&kind).expect("letters"), "request"));
+            words.push(sample.path("result").into());
+            for (payer, owed) in PAYERS.iter().zip(owed(sample)) {
+                words.extend([payer.into(), owed.to_string().into()]);
+            }
+            Some(words)
+        }
         _ => None,
     }
+}
+
+/// What the members of the board owe before the sample is posted.
+fn owed(sample: &Sample) -> [u64; 3] {
+    let taken = taken(sample);
+    [0, 1, 2].map(|at| taken[at] + LEFT[at])
+}
+
+/// What the example prints of an accepted pair: the members of the board, and the dates.
+fn printed_board(sample: &Sample) -> String {
+    let state = |left: u64| if left == 0 { "running" } else { "paused" };
+    let member = |(payer, left): (&&str, u64)| format!("{payer:20} {left} {}\n", state(left));
+    let members: String = PAYERS.iter().zip(LEFT).map(member).collect();
+    let dates = if sample.number == Kind::EC21.number() { "000000 240315" } else { "240315 000000" };
+    format!("accepted\n{members}{dates}\n")
 }
 
 /// What the example prints: the line, and each evidence or body on a line of its own with its number.
 fn printed(sample: &Sample) -> String {
     if !sample.expected.starts_with("accepted") {
         return format!("{}\n", sample.expected);
+    }
+    if matches!(sample.files, Files::Pair(..)) {
+        return printed_board(sample);
     }
     let parts = sample.expected.split(' ').enumerate().skip(1);
     let lines = parts.map(|(record, part)| format!("{record} {}\n", part.replace(['@', '+'], " ")));

@@ -1,7 +1,7 @@
 //! How much stack the library needs: every function of the C face, called on a painted stack with the largest inputs,
 //! good ones and ones whose fault is found last, touches no more than include/cms.h says.
 
-use super::{stack_arrival, stack_day, stack_evidence};
+use super::{stack_arrival, stack_board, stack_day, stack_evidence};
 use crate::common::put;
 use outside::bridge::{ask, Call};
 use outside::gen::{self, Draft, Rng};
@@ -156,8 +156,13 @@ fn of_writing(kind: Kind, draft: &Draft) -> Vec<Case> {
     inputs.into_iter().map(case).collect()
 }
 
-fn of_two_files(pair: PairKind, request: &Draft, result: &Draft) -> Vec<Case> {
-    let mut inputs: Vec<(String, u64, Vec<u8>, Vec<u8>)> = Vec::new();
+/// Both files of a pair: such ones, and the good ones.
+pub(super) fn pairs(
+    pair: PairKind,
+    request: &Draft,
+    result: &Draft,
+) -> Vec<(String, u64, Vec<u8>, Vec<u8>)> {
+    let mut inputs = Vec::new();
     for (what, returned, file) in results(pair, request, result) {
         inputs.push((what.to_string(), returned, request.file(), file));
     }
@@ -167,8 +172,12 @@ fn of_two_files(pair: PairKind, request: &Draft, result: &Draft) -> Vec<Case> {
     for (what, returned, file) in files(pair.result(), result).into_iter().filter(|one| one.1 != 0) {
         inputs.push((format!("result: {what}"), returned, request.file(), file));
     }
+    inputs
+}
+
+fn of_two_files(pair: PairKind, request: &Draft, result: &Draft) -> Vec<Case> {
     let mut cases = Vec::new();
-    for (what, returned, request, result) in inputs {
+    for (what, returned, request, result) in pairs(pair, request, result) {
         let input = format!("{pair:?}: {what}");
         let mut add = |function, input: String, returned, call| {
             cases.push(Case { function, input, returned, call });
@@ -208,6 +217,7 @@ fn all_cases() -> Vec<Case> {
         cases.extend(stack_arrival::all_cases(pair.result(), &result));
         cases.extend(of_writing(pair.request(), &request));
         cases.extend(of_two_files(pair, &request, &result));
+        cases.extend(stack_board::all_cases(pair, &request, &result));
     }
     cases.extend(stack_evidence::all_cases(&mut rng));
     cases.extend(stack_day::all_cases(&mut rng));

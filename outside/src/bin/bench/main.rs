@@ -3,6 +3,8 @@
 #[cfg(target_arch = "x86_64")]
 mod arrivals;
 #[cfg(target_arch = "x86_64")]
+mod boards;
+#[cfg(target_arch = "x86_64")]
 mod measures;
 #[cfg(target_arch = "x86_64")]
 mod passbook;
@@ -12,6 +14,7 @@ fn main() {
     {
         measures::print();
         arrivals::print();
+        boards::print();
         passbook::print();
     }
     #[cfg(not(target_arch = "x86_64"))]

@@ -140,7 +140,7 @@ fn writing(rng: &mut Rng, n: usize) -> [f64; 3] {
 }
 
 /// Every so many of the requests answered with "N" and a code, the last of them first.
-fn refused(request: &Draft, one_in: usize, told: &[u8; 5]) -> Draft {
+pub fn refused(request: &Draft, one_in: usize, told: &[u8; 5]) -> Draft {
     let mut result = request.clone();
     let pair = request.kind.pair();
     result.kind = pair.result();

@@ -1,0 +1,3 @@
+-- A debit pair posted on the board.
+pub mod Posting
+pub mod Steps
