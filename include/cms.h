@@ -4,6 +4,8 @@
  * request: CMS_EB13 is enrolment (EB13 with EB14), CMS_EB21 is next-day debit (EB21 with EB22), CMS_EC21 is same-day
  * debit (EC21 with EC22). Same-day debits have the items, totals and keys of next-day ones; but their least amount, and
  * the least that may be taken of type "0", is 300 won in place of 140.
+ * CMS_EB11 is what members applied for at their banks: read, walked and taken while it arrives, and answered by
+ * cms_write_eb12; it is in no pair and in no day file, and it is neither written nor taken apart.
  * A code is its four bytes in the same way: "0000" is 0x30303030, a blank code 0x20202020.
  * A slice is a pointer and its length; nothing is read or written outside it, and nothing is kept after a call
  * returns. Memory that a call writes may overlap nothing else that is lent to it.
@@ -11,8 +13,8 @@
  * The profile of consent evidence (EI13) is 0 for an ordinary institution. Every other number is one that is partly
  * exempt: its records have a kind of evidence, but a blank extension and no bytes.
  *
- * A day file holds files of the six kinds, which are its bodies: the byte "1", two digits for how many they are (00 to
- * 16), for each its name (8 bytes) and its length (five digits), and then the bodies in that order, with nothing between
+ * A day file holds files of the six kinds of the pairs, which are its bodies: the byte "1", two digits for how many they
+ * are (00 to 16), for each its name (8 bytes) and its length (five digits), and then the bodies in that order, with nothing between
  * or behind them. No two names are the same, and each is item 4 of its body's header.
  *
  * Every function takes any number, any bytes and any length. All but cms_post and cms_part return the refusal's number, 0
@@ -41,7 +43,8 @@
  * its bodies are not as long as the contents say, 32 the name of an earlier body, 33 a body is refused: as cms_read refuses
  * it, or with 1 where its name says no kind that goes in, or last with 5 at record 0, item 4, where its header has another
  * name, 40 the date of a pair is not later than the last one posted, 41 a payer is not on the board, 42 more was taken of a
- * payer than it owes, 43 the payer of an earlier member of the board. */
+ * payer than it owes, 43 the payer of an earlier member of the board, 50 a record with "CHNG" without its other half, 51 the
+ * answers to an EB11 are not one for each record, or one is none, 52 only one half of a change is refused. */
 #ifndef CMS_H
 #define CMS_H
 
@@ -65,9 +68,11 @@ extern "C" {
  * characters and 14 minus 2k one-byte ones. Both bytes of a two-byte character are hex A1 to FE; a one-byte character is a
  * letter, a digit or a space. Before, any bytes hex 20 or above did, so files written before may be refused now. EB22 and
  * EC22 are held to no form, as before. No function changed its parameters. 8: cms_board_post and struct cms_member came, and
- * no other function changed. */
-#define CMS_FACE 8
+ * no other function changed. 9: the kind EB11 came, for cms_read, cms_walk and cms_end; before, it was 1, as it still is
+ * everywhere else. And cms_write_eb12 came. No function changed its parameters. */
+#define CMS_FACE 9
 
+#define CMS_EB11 UINT32_C(0x45423131)
 #define CMS_EB13 UINT32_C(0x45423133)
 #define CMS_EB14 UINT32_C(0x45423134)
 #define CMS_EB21 UINT32_C(0x45423231)
@@ -173,6 +178,23 @@ struct cms_member {
 uint64_t cms_board_post(uint32_t pair, const uint8_t *request, size_t request_length, const uint8_t *result,
                         size_t result_length, struct cms_member *board, size_t board_length, uint8_t dates[12],
                         uint64_t answer[5]);
+
+/* Answers an EB11, what members applied for at their banks: its refused records are written as an EB12 into the room. There is
+ * one answer for each data record, in their order: 0 is yes, and any other number is a code by which the record is refused,
+ * four bytes as one number: A013 (0x41303133), A016, A017 or A019. Two records are the halves of one change when both have
+ * "CHNG" in item 10, one is of kind "3" and the other of kind "1", in either order, item 6 is the same, and item 7 or 8 is
+ * not. It answers, in this order:
+ *   as cms_read of an EB11
+ *   50  a record has "CHNG" and no other half: the first such record, item 10
+ *   51  the answers are not one for each record, or one of them is none of these numbers: no place
+ *   52  one half of a change has a yes and the other a no: the first such record, which may be either half, item 10
+ *   8   the room is shorter than the file, 120 bytes for each refused record and 240 more: no place
+ * On success the first bytes of the room are the file, and those past it are unchanged. It has the refused records in their
+ * order, each as it was but for its serial, counted anew, and its item 12, "N" and the code; the EB11's header under the name
+ * EB12; and a trailer with their number, their number by kind, and spaces for the MAC. After the five:
+ *   answer[5] length  of the file; 0 when refused */
+uint64_t cms_write_eb12(const uint8_t *eb11, size_t eb11_length, const uint64_t *answers, size_t answers_length,
+                        uint8_t *room, size_t room_length, uint64_t answer[6]);
 
 /* Reads a file of consent evidence, EI13: blocks of 1,024 bytes, of which the first is the header and the last the
  * trailer, and between them data records of as many blocks as their evidence wants. */

@@ -4,7 +4,9 @@
  * Of a day file it also prints where each body lies, as body, name, first byte and length: example DAY FILE
  * Compares enrolments with the evidence for them: example EB13 FILE EI13 FILE
  * Posts a debit pair on a board of members, each a payer and the won owed, and prints the members as they are then, and the
- * dates last posted: example BOARD EB21 FILE FILE 2024000001 30000 2024000002 500 */
+ * dates last posted: example BOARD EB21 FILE FILE 2024000001 30000 2024000002 500
+ * Answers an EB11, with yes or a code for each of its records, and prints the EB12, a line for each of its records:
+ * example ANSWER FILE yes A016 */
 #include "cms.h"
 #include <inttypes.h>
 #include <stdio.h>
@@ -12,8 +14,9 @@
 #include <string.h>
 
 #define ORDINARY 0
-/* The most that the words of a call may name. A board may have any number of members. */
+/* The most that the words of a call may name. A board may have any number of members, an EB11 430 records. */
 #define MEMBERS 100
+#define ANSWERS 430
 
 struct file {
     size_t length;
@@ -122,6 +125,23 @@ static int post(const char *letters, char **words, size_t members) {
     return refused;
 }
 
+/* A yes is 0, and a code its four letters as a kind's. */
+static int are_answers(char **words, int count) {
+    for (int i = 0; i < count; i++)
+        if (strcmp(words[i], "yes") != 0 && strlen(words[i]) != 4) return 0;
+    return 1;
+}
+
+static int answer_records(char **words, size_t count) {
+    static uint8_t room[CMS_LONGEST];
+    uint64_t answers[ANSWERS], answer[6];
+    for (size_t i = 0; i < count; i++) answers[i] = strcmp(words[i], "yes") == 0 ? 0 : kind_of(words[i]);
+    cms_write_eb12(one.bytes, one.length, answers, count, room, sizeof room, answer);
+    int refused = print_five(answer);
+    for (uint64_t at = 0; at < answer[5]; at += 120) printf("%.120s\n", (const char *)&room[at]);
+    return refused;
+}
+
 int main(int count, char **words) {
     if (count == 3 && strcmp(words[1], "DAY") == 0 && take(words[2], &one)) return read_day();
     if (count == 4 && strcmp(words[1], "PARTS") == 0 && strlen(words[2]) == 4 && take(words[3], &one))
@@ -134,9 +154,12 @@ int main(int count, char **words) {
     if (count >= 5 && count % 2 == 1 && count <= 5 + 2 * MEMBERS && strcmp(words[1], "BOARD") == 0 &&
         strlen(words[2]) == 4 && take(words[3], &one) && take(words[4], &other))
         return post(words[2], words + 5, (size_t)(count - 5) / 2);
-    fputs("usage: example KIND FILE, example PARTS KIND FILE, example DAY FILE, example EB13 FILE EI13 FILE, or\n"
-          "example BOARD KIND FILE FILE and a payer and won for each member; files of no more than 4,098 KB that can be\n"
-          "read, and no more than 100 members\n",
+    if (count >= 3 && count <= 3 + ANSWERS && strcmp(words[1], "ANSWER") == 0 && are_answers(words + 3, count - 3) &&
+        take(words[2], &one))
+        return answer_records(words + 3, (size_t)(count - 3));
+    fputs("usage: example KIND FILE, example PARTS KIND FILE, example DAY FILE, example EB13 FILE EI13 FILE,\n"
+          "example BOARD KIND FILE FILE and a payer and won for each member, or example ANSWER FILE and yes or a code for\n"
+          "each record; files of no more than 4,098 KB that can be read, no more than 100 members and 430 answers\n",
           stderr);
     return 2;
 }

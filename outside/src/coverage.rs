@@ -30,6 +30,8 @@ pub enum Operation {
     End(Option<Kind>),
     /// A pair is posted on the board.
     Board(Option<PairKind>),
+    /// An EB11 is answered.
+    WriteEb12,
 }
 
 impl Operation {
@@ -39,6 +41,10 @@ impl Operation {
 
     pub fn is_of_the_board(&self) -> bool {
         matches!(self, Operation::Board(_))
+    }
+
+    pub fn is_of_changes(&self) -> bool {
+        matches!(self, Operation::WriteEb12)
     }
 
     pub fn is_of_evidence(&self) -> bool {
@@ -91,6 +97,9 @@ const DEBIT_HEADER: Rows = "1:0081 2:0081 3:0088 4:0088 5:0088 5:9998 6:0011 7:0
 
 // Data records.
 
+const ENROLMENT_BY_BANK_DATA: Rows =
+    "1:0081 2:0081 4:A011 5:A012 6:0098 7:0011 8:0098 9:0098 10:0088 11:0098 12:0089 13:0088 14:0088 \
+     15:0088 16:0089 5@3 7@6";
 const ENROLMENT_REQUEST_DATA: Rows =
     "1:0081 2:0081 4:A011 5:A012 6:0098 7:0011 8:0098 9:0098 10:0089 11:0098 12:0089 13:0089 14:0088 \
      15:0089 16:0089 5@3 7@6";
@@ -108,6 +117,7 @@ const DEBIT_RESULT_DATA: Rows =
 
 const ENROLMENT_REQUEST_TRAILER: Rows =
     "1:0081 2:0081 5:0088 6:0088 7:0090 8:0088 9:0088 10:0089 11:0089 5@3 5@4 6@5 6@6 6@8 6@9";
+/// Also that of banks, which may have a MAC as well.
 const ENROLMENT_RESULT_TRAILER: Rows =
     "1:0081 2:0081 5:0088 6:0088 7:0090 8:0088 9:0088 10:0089 11:0088 5@3 5@4 6@5 6@6 6@8 6@9";
 const DEBIT_REQUEST_TRAILER: Rows =
@@ -162,6 +172,10 @@ const POSTED_HEADER: Rows = "40@5";
 const POSTED_DATA: Rows = "41@11 42@11";
 const REPEATED_MEMBER: Rows = "43@0";
 
+// Members who change banks.
+
+const UNPAIRED_OR_SPLIT: Rows = "50@10 52@10";
+
 /// Every answer that the rules can give.
 pub fn all() -> Vec<Entry> {
     let mut list = List::default();
@@ -179,7 +193,7 @@ pub fn all() -> Vec<Entry> {
         list.placeless(Operation::Apart(Some(kind)), 0, &[0, 2, 3, 8]);
         list.reading(Operation::Apart(Some(kind)), 0, kind);
     }
-    for other in [Some(Kind::EB14), Some(Kind::EB22), Some(Kind::EC22), None] {
+    for other in [Some(Kind::EB11), Some(Kind::EB14), Some(Kind::EB22), Some(Kind::EC22), None] {
         list.placeless(Operation::Write(other), 0, &[1]);
         list.placeless(Operation::Apart(other), 0, &[1]);
     }
@@ -207,6 +221,9 @@ pub fn all() -> Vec<Entry> {
     for pair in PairKind::ALL.map(Some).into_iter().chain([None]) {
         list.posting(pair);
     }
+    list.placeless(Operation::WriteEb12, 0, &[0, 2, 3, 8, 51]);
+    list.reading(Operation::WriteEb12, 0, Kind::EB11);
+    list.rows(Operation::WriteEb12, 0, Part::Data, UNPAIRED_OR_SPLIT);
     list.0
 }
 
@@ -238,6 +255,7 @@ impl List {
 
     fn reading(&mut self, operation: Operation, side: u64, kind: Kind) {
         let (header, data, trailer) = match (kind.family(), kind.is_request()) {
+            _ if kind == Kind::EB11 => (ENROLMENT_HEADER, ENROLMENT_BY_BANK_DATA, ENROLMENT_RESULT_TRAILER),
             (Family::Enrolment, true) => {
                 (ENROLMENT_HEADER, ENROLMENT_REQUEST_DATA, ENROLMENT_REQUEST_TRAILER)
             }
@@ -321,11 +339,11 @@ impl List {
 /// answer points into, or how many members the board.
 pub fn entry(operation: Operation, answer: &Answer, n: u64) -> Entry {
     let part = match (answer.number, answer.record) {
-        (0..=3 | 8..=10 | 15, 0) => Part::None,
+        (0..=3 | 8..=10 | 15 | 51, 0) => Part::None,
         (4..=7 | 12..=14 | 40, 0) => Part::Header,
         // The first member repeats nobody.
         (43, 2..) if answer.record <= n => Part::Member,
-        (43, _) => Part::Outside,
+        (43, _) | (50 | 52, 0) => Part::Outside,
         (_, record) if record <= n => Part::Data,
         (_, record) if record == n + 1 => Part::Trailer,
         _ => Part::Outside,

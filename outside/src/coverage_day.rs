@@ -58,7 +58,7 @@ fn list(operation: DayOperation) -> Vec<Told> {
     for body in 1..=MOST_BODIES {
         list.extend((1..=7).map(|number| Told::Refused(body, number)));
     }
-    let readings = all().into_iter().filter(|entry| matches!(entry.operation, Operation::Read(_)));
+    let readings = all().into_iter().filter(|entry| is_of_a_body(&entry.operation));
     list.extend(readings.filter(|entry| entry.number != 0).map(Told::Inner));
     match operation {
         DayOperation::Read => list.extend((0..=MOST_BODIES).map(Told::Accepted)),
@@ -72,6 +72,15 @@ fn list(operation: DayOperation) -> Vec<Told> {
         }
     }
     list
+}
+
+/// A body is read as one of the kinds that go in, and every other name says none.
+fn is_of_a_body(operation: &Operation) -> bool {
+    match operation {
+        Operation::Read(Some(kind)) => kind_said(kind.letters()).is_some(),
+        Operation::Read(None) => true,
+        _ => false,
+    }
 }
 
 /// A refused body: its name, and how long it is.

@@ -6,6 +6,8 @@ pub const MOST_RECORDS: usize = 430;
 /// A file kind.
 #[derive(Clone, Copy, Debug, PartialEq, Eq, Hash, PartialOrd, Ord)]
 pub enum Kind {
+    /// Enrolments that members made at their banks, which we answer.
+    EB11,
     /// Enrolment requests.
     EB13,
     /// Their failures.
@@ -34,16 +36,19 @@ pub enum PairKind {
 /// What the layouts, totals and keys go by.
 #[derive(Clone, Copy, Debug, PartialEq, Eq, Hash, PartialOrd, Ord)]
 pub enum Family {
+    /// Those of banks, too.
     Enrolment,
     /// Next-day and same-day.
     Debit,
 }
 
 impl Kind {
-    pub const ALL: [Kind; 6] = [Kind::EB13, Kind::EB14, Kind::EB21, Kind::EB22, Kind::EC21, Kind::EC22];
+    pub const ALL: [Kind; 7] =
+        [Kind::EB11, Kind::EB13, Kind::EB14, Kind::EB21, Kind::EB22, Kind::EC21, Kind::EC22];
 
     pub fn letters(self) -> &'static [u8; 4] {
         match self {
+            Kind::EB11 => b"EB11",
             Kind::EB13 => b"EB13",
             Kind::EB14 => b"EB14",
             Kind::EB21 => b"EB21",
@@ -63,28 +68,57 @@ impl Kind {
         Kind::ALL.into_iter().find(|kind| kind.number() == number)
     }
 
-    pub fn pair(self) -> PairKind {
+    /// None: it is of no pair.
+    pub fn pair(self) -> Option<PairKind> {
         match self {
-            Kind::EB13 | Kind::EB14 => PairKind::Enrolment,
-            Kind::EB21 | Kind::EB22 => PairKind::NextDay,
-            Kind::EC21 | Kind::EC22 => PairKind::SameDay,
+            Kind::EB11 => None,
+            Kind::EB13 | Kind::EB14 => Some(PairKind::Enrolment),
+            Kind::EB21 | Kind::EB22 => Some(PairKind::NextDay),
+            Kind::EC21 | Kind::EC22 => Some(PairKind::SameDay),
         }
     }
 
     pub fn family(self) -> Family {
-        self.pair().family()
+        self.pair().map_or(Family::Enrolment, PairKind::family)
     }
 
     pub fn is_debit(self) -> bool {
-        self.pair().is_debit()
+        self.family() == Family::Debit
     }
 
+    /// The request of a pair.
     pub fn is_request(self) -> bool {
-        self == self.pair().request()
+        self.pair().is_some_and(|pair| self == pair.request())
+    }
+
+    /// The result of a pair.
+    pub fn is_result(self) -> bool {
+        self.pair().is_some_and(|pair| self == pair.result())
+    }
+
+    /// What is answered: of a result its request, and else the kind itself.
+    pub fn answered(self) -> Kind {
+        self.pair().map_or(self, PairKind::request)
     }
 
     pub fn record_length(self) -> usize {
-        self.pair().record_length()
+        self.family().record_length()
+    }
+
+    pub fn key(self) -> [usize; 2] {
+        self.family().key()
+    }
+
+    pub fn key_item(self) -> usize {
+        self.family().key_item()
+    }
+
+    pub fn result_item(self) -> usize {
+        self.family().result_item()
+    }
+
+    pub fn least_won(self) -> u64 {
+        self.pair().map_or(0, PairKind::least_won)
     }
 
     /// A body is a data record without items 1 to 3.
@@ -169,7 +203,25 @@ impl PairKind {
     }
 
     pub fn record_length(self) -> usize {
-        match self.family() {
+        self.family().record_length()
+    }
+
+    pub fn key(self) -> [usize; 2] {
+        self.family().key()
+    }
+
+    pub fn key_item(self) -> usize {
+        self.family().key_item()
+    }
+
+    pub fn result_item(self) -> usize {
+        self.family().result_item()
+    }
+}
+
+impl Family {
+    pub fn record_length(self) -> usize {
+        match self {
             Family::Enrolment => 120,
             Family::Debit => 150,
         }
@@ -177,7 +229,7 @@ impl PairKind {
 
     /// The two items that make the key.
     pub fn key(self) -> [usize; 2] {
-        match self.family() {
+        match self {
             Family::Enrolment => [5, 6],
             Family::Debit => [11, 12],
         }
@@ -185,7 +237,7 @@ impl PairKind {
 
     /// The item at which a fault of the key is placed.
     pub fn key_item(self) -> usize {
-        match self.family() {
+        match self {
             Family::Enrolment => 6,
             Family::Debit => 11,
         }
@@ -193,7 +245,7 @@ impl PairKind {
 
     /// The item that holds the result: mark and code.
     pub fn result_item(self) -> usize {
-        match self.family() {
+        match self {
             Family::Enrolment => 12,
             Family::Debit => 8,
         }

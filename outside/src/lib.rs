@@ -21,7 +21,8 @@
 //! * [`evidence`]: consent evidence is read, written, and compared with enrolments;
 //! * [`day`]: a day file is read, asked for its bodies, and written;
 //! * [`arrival`]: a file is read while it arrives, part by part;
-//! * [`board`]: a debit pair is posted on the members' board.
+//! * [`board`]: a debit pair is posted on the members' board;
+//! * [`changes`]: an EB11 is answered with an EB12, and both halves of a change alike.
 //!
 //! For the comparison:
 //!
@@ -38,6 +39,7 @@ pub mod apart;
 pub mod arrival;
 pub mod board;
 pub mod bridge;
+pub mod changes;
 pub mod chars;
 mod checked;
 pub mod coverage;
@@ -61,6 +63,7 @@ pub mod write;
 pub use apart::apart;
 pub use arrival::{end_at, part_at, Arrival};
 pub use board::{board_post, Dates, Member};
+pub use changes::write_eb12;
 pub use day::{day_body, day_read, day_write};
 pub use evidence::{evidence_compare, evidence_part, evidence_read, evidence_write};
 pub use model::{

@@ -87,6 +87,15 @@ extern "C" {
         dates: *mut u8,
         answer: *mut u64,
     ) -> u64;
+    fn cms_write_eb12(
+        eb11: *const u8,
+        eb11_length: usize,
+        answers: *const u64,
+        answers_length: usize,
+        room: *mut u8,
+        room_length: usize,
+        answer: *mut u64,
+    ) -> u64;
 }
 
 pub fn read(kind: u32, file: &[u8]) -> [u64; 5] {
@@ -248,6 +257,23 @@ pub fn board_post(
             board.as_mut_ptr(),
             board.len(),
             dates.as_mut_ptr(),
+            answer.as_mut_ptr(),
+        )
+    };
+    answer
+}
+
+pub fn write_eb12(eb11: &[u8], answers: &[u64], room: &mut [u8]) -> [u64; 6] {
+    let mut answer = [0; 6];
+    // Safe: each pointer is good for the length that stands beside it, till the call returns.
+    unsafe {
+        cms_write_eb12(
+            eb11.as_ptr(),
+            eb11.len(),
+            answers.as_ptr(),
+            answers.len(),
+            room.as_mut_ptr(),
+            room.len(),
             answer.as_mut_ptr(),
         )
     };

@@ -28,13 +28,13 @@ impl Answer {
         Answer::without_place(0)
     }
 
-    /// A number that has no place: 1, 2, 3, 8, 9, 15.
+    /// A number that has no place: 1, 2, 3, 8, 9, 15, 51.
     pub fn without_place(number: u64) -> Answer {
         Answer::placed(number, 0, 0)
     }
 
-    /// A number with record and item, and no code: 5, 6, 7, 12, 13, 14, 20, 21, 40, 41, 42; and 43, whose record is a
-    /// member and whose item is 0.
+    /// A number with record and item, and no code: 5, 6, 7, 12, 13, 14, 20, 21, 40, 41, 42, 50, 52; and 43, whose record
+    /// is a member and whose item is 0.
     pub fn placed(number: u64, record: usize, item: usize) -> Answer {
         Answer { side: 0, number, record: record as u64, item: item as u64, code: NO_CODE }
     }
@@ -219,7 +219,7 @@ pub enum DayBody {
     NoBody,
 }
 
-/// The six numbers of `cms_apart` and `cms_evidence_write`.
+/// The six numbers of `cms_apart`, `cms_evidence_write` and `cms_write_eb12`.
 pub fn six(answer: &Answer, length: u64) -> [u64; 6] {
     let [side, number, record, item, code] = answer.five();
     [side, number, record, item, code, length]

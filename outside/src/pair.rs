@@ -79,19 +79,20 @@ fn first_difference(items: &[usize], one: &Record, other: &Record) -> Option<usi
 }
 
 fn settle_records(pair: PairKind, request: &Records, result: &Records) -> Result<Vec<Outcome>, Answer> {
+    let family = pair.family();
     let mut outcomes: Vec<Outcome> =
         request.data.iter().map(|record| Outcome::Whole { won: won_asked(pair, record) }).collect();
     let places: HashMap<_, usize> =
-        request.data.iter().enumerate().map(|(place, record)| (key(pair, record), place)).collect();
+        request.data.iter().enumerate().map(|(place, record)| (key(family, record), place)).collect();
     let copied = copied_items(pair, result.kind.data().len());
     for (before, answered) in result.data.iter().enumerate() {
         let refused = |number, item| Answer::placed(number, before + 1, item);
-        let place = *places.get(&key(pair, answered)).ok_or_else(|| refused(13, pair.key_item()))?;
+        let place = *places.get(&key(family, answered)).ok_or_else(|| refused(13, pair.key_item()))?;
         let asked = &request.data[place];
         if let Some(item) = first_difference(&copied, asked, answered) {
             return Err(refused(13, item));
         }
-        outcomes[place] = match pair.family() {
+        outcomes[place] = match family {
             Family::Enrolment => enrolment_outcome(pair, answered),
             Family::Debit => {
                 debit_outcome(pair, asked, answered).map_err(|Impossible { item }| refused(14, item))?

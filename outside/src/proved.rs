@@ -47,6 +47,9 @@ const ARRIVE: Function = Function {
 const BOARD_POST: Function =
     Function { number: 20, lent: &["the request", "the result", "the board", "the dates", "the answer"] };
 
+const WRITE_EB12: Function =
+    Function { number: 21, lent: &["the EB11", "the answers", "the room", "the answer"] };
+
 /// What a file is written from.
 #[derive(Clone, Copy)]
 pub struct Parts<'a> {
@@ -159,6 +162,10 @@ impl Call {
     pub fn board_post(pair: u32, request: &[u8], result: &[u8], board: &[Member], dates: &Dates) -> Call {
         let files = Call::of(&BOARD_POST).number(pair.into()).slice(request).slice(result);
         files.room(&sent(board)).room(dates).answer(5)
+    }
+
+    pub fn write_eb12(eb11: &[u8], answers: &[u64], room: &[u8]) -> Call {
+        Call::of(&WRITE_EB12).slice(eb11).numbers(answers).room(room).answer(6)
     }
 }
 
@@ -296,6 +303,13 @@ pub fn board_post(
     let (members, rest) = said.written.split_at(SENT * board.len());
     board.copy_from_slice(&received(members));
     *dates = rest[..12].try_into().expect("two dates");
+    kept(told(&said))
+}
+
+/// The answer of the proved writer of EB12: the five, then the file's length. It changes the room as its face says.
+pub fn write_eb12(eb11: &[u8], answers: &[u64], room: &mut [u8]) -> [u64; 6] {
+    let said = kept(ask(&Call::write_eb12(eb11, answers, room)));
+    room.copy_from_slice(&said.written[..room.len()]);
     kept(told(&said))
 }
 

@@ -6,7 +6,7 @@ use crate::chars::{
     real_date, spaces,
 };
 use crate::checked::Checked;
-use crate::layout::{is_centre_code, is_table_code, Family, Kind, PairKind, Record, MOST_RECORDS};
+use crate::layout::{is_centre_code, is_table_code, Family, Kind, Record, MOST_RECORDS};
 use crate::model::Answer;
 use std::collections::HashSet;
 
@@ -120,18 +120,39 @@ fn check_enrolment(record: &Checked, kind: Kind, header: &Record) -> Result<(), 
     } else {
         record.class(9, filled_code_text, b"0098")?;
     }
-    record.spaces(10)?;
-    record.class(11, code_text, b"0098")?;
-    if kind.is_request() {
-        record.spaces(12)?;
+    let by_bank = kind == Kind::EB11;
+    if by_bank {
+        record.class(10, office, b"0088")?;
     } else {
-        record.class(12, enrolment_result, b"0088")?;
+        record.spaces(10)?;
     }
-    record.spaces(13)?;
+    record.class(11, code_text, b"0098")?;
+    if kind.is_result() {
+        record.class(12, enrolment_result, b"0088")?;
+    } else {
+        record.spaces(12)?;
+    }
+    if by_bank {
+        record.class(13, |check| matches!(check, b"Y" | b"N" | b" "), b"0088")?;
+    } else {
+        record.spaces(13)?;
+    }
     record.class(14, free_text, b"0088")?;
-    record.spaces(15)?;
+    if by_bank {
+        record.class(15, |channel| matches!(channel, b"1" | b"4"), b"0088")?;
+    } else {
+        record.spaces(15)?;
+    }
     record.spaces(16)
 }
+
+/// EB11: the number of an office, a word, or nothing.
+fn office(code: &[u8]) -> bool {
+    digits(code) || code == CHANGE || code == b"CNCL" || spaces(code)
+}
+
+/// What the office code of both halves of a change says.
+pub const CHANGE: &[u8] = b"CHNG";
 
 fn check_debit(record: &Checked, kind: Kind) -> Result<(), Answer> {
     record.class(4, digits, b"0011")?;
@@ -155,7 +176,7 @@ fn check_debit(record: &Checked, kind: Kind) -> Result<(), Answer> {
     let debit_type = record.item(13);
     record.keeps(13, matches!(debit_type, [b'0'..=b'6']), b"0075")?;
     if kind.is_request() {
-        record.keeps(13, amount >= kind.pair().least_won() || debit_type == b"1", b"0075")?;
+        record.keeps(13, amount >= kind.least_won() || debit_type == b"1", b"0075")?;
     }
     record.class(14, free_text, b"0088")?;
     record.spaces(15)
@@ -185,12 +206,12 @@ fn check_trailer(trailer: &Checked, kind: Kind, header: &Record) -> Result<(), A
     trailer.class(5, digits, b"0088")?;
     trailer.class(6, digits, b"0088")?;
     match (kind.family(), kind.is_request()) {
-        (Family::Enrolment, request) => {
+        (Family::Enrolment, ours) => {
             trailer.zero(7)?;
             trailer.class(8, digits, b"0088")?;
             trailer.class(9, digits, b"0088")?;
             trailer.spaces(10)?;
-            if request {
+            if ours {
                 trailer.spaces(11)
             } else {
                 trailer.class(11, free_text, b"0088")
@@ -275,17 +296,17 @@ fn failed_by_centre(debit: &Record) -> bool {
 
 /// Number 7: the smallest record number that repeats an earlier key.
 fn check_keys(file: &Records) -> Result<(), Answer> {
-    let pair = file.kind.pair();
+    let family = file.kind.family();
     let mut earlier = HashSet::new();
     for (before, record) in file.data.iter().enumerate() {
-        if !earlier.insert(key(pair, record)) {
-            return Err(Answer::placed(7, before + 1, pair.key_item()));
+        if !earlier.insert(key(family, record)) {
+            return Err(Answer::placed(7, before + 1, family.key_item()));
         }
     }
     Ok(())
 }
 
 /// The key of a data record: the bytes of both its items.
-pub fn key<'a>(pair: PairKind, record: &Record<'a>) -> [&'a [u8]; 2] {
-    pair.key().map(|item| record.item(item))
+pub fn key<'a>(family: Family, record: &Record<'a>) -> [&'a [u8]; 2] {
+    family.key().map(|item| record.item(item))
 }

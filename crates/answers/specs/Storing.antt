@@ -2,10 +2,15 @@
 use Prim.Native.Nat.{ℕ}
 use mathlib.Core.Bool.{cond}
 use mathlib.Core.List.{List, [], _++_}
+use lib.Dec.{leb}
 use lib.ListN.{length, drop}
 use Rattle.answers.specs.declared.told.Answer.{Answer}
 use Rattle.answers.specs.declared.told.Stored.{Stored}
-use Rattle.answers.specs.Answers.{refuses}
+use Rattle.answers.specs.Answers.{accepted, refused, refuses}
+
+-- 8: the room is shorter than what is to be stored
+unfoldable pub roomTells : List ℕ → ℕ → Answer
+roomTells bytes room = cond (leb (length bytes) room) accepted (refused 8)
 
 -- what is stored: nothing when refused
 unfoldable pub unlessRefused : Answer → List ℕ → List ℕ

@@ -2,15 +2,15 @@
 use Prim.Native.Nat.{ℕ}
 use mathlib.Core.Bool.{cond}
 use mathlib.Core.List.{List, []}
-use lib.Dec.{leb, ltb}
+use lib.Dec.{ltb}
 use lib.ListN.{length}
 use Rattle.kinds.specs.declared.of_files.Kind.{Kind}
 use Rattle.kinds.specs.declared.of_files.Named.{Named}
 use Rattle.kinds.specs.declared.of_files.Named.the-variants.{Is, Unknown}
 use Rattle.answers.specs.declared.told.Answer.{Answer}
 use Rattle.answers.specs.declared.told.Stored.{Stored}
-use Rattle.answers.specs.Answers.{accepted, refused, _then_}
-use Rattle.answers.specs.Storing.{unlessRefused, storing, atFront}
+use Rattle.answers.specs.Answers.{refused, _then_}
+use Rattle.answers.specs.Storing.{roomTells, unlessRefused, storing, atFront}
 use Rattle.records.specs.Records.{dataOf}
 use Rattle.reader.specs.Reading.{readAs}
 use Rattle.kinds.specs.Kinds.{requestOf}
@@ -20,11 +20,7 @@ use Rattle.writer.specs.Apart.{bodyAt, bodiesIn}
 unfoldable pub bodyOf : Kind → List ℕ → ℕ → List ℕ
 bodyOf k s i = cond (ltb i (dataOf k s)) (bodyAt k s i) []
 
--- 8: the room is shorter than all bodies together
-unfoldable pub roomTells : List ℕ → ℕ → Answer
-roomTells bodies room = cond (leb (length bodies) room) accepted (refused 8)
-
--- as reading the file, then 8
+-- as reading the file, then 8 where the room is shorter than all bodies together
 unfoldable pub apartAs : Kind → List ℕ → ℕ → Answer
 apartAs k s room = readAs k s then roomTells (bodiesIn k s) room
 

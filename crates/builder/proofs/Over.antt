@@ -20,7 +20,7 @@ use Rattle.kinds.specs.declared.of_files.Role.the-variants.{Data}
 use Rattle.tables.specs.declared.row.Row.{Row}
 use Rattle.kinds.specs.Kinds.{fixedOf}
 use Rattle.tables.specs.Rows.{blank, next, tilesFrom, tiles}
-use Rattle.tables.specs.Tables.{dataFront, enrolmentData, debitData, enrolmentRequestData, enrolmentResultData, debitRequestData, debitResultData, rowsFor, rowsOf}
+use Rattle.tables.specs.Tables.{dataFront, enrolmentData, debitData, enrolmentRequestData, enrolmentResultData, debitRequestData, debitResultData, bankEnrolmentData, rowsFor, rowsOf}
 use Rattle.tables.proofs.Fronts.{front-row}
 use Rattle.kinds.proofs.Forms.{of-form}
 use Rattle.tables.proofs.Tiling.{rows-tile}
@@ -161,7 +161,7 @@ over-of rows i j r t e a b =
 
 -- the rows of items 1 to 3 begin one after the other in each form
 front-starts : (k : Kind) (i : ℕ) → i < 3 → starts (rowsOf k Data) i ≡ true
-unfolding starts endsPast none least further enrolmentRequestData enrolmentResultData enrolmentData debitRequestData debitResultData debitData dataFront
+unfolding starts endsPast none least further enrolmentRequestData enrolmentResultData enrolmentData debitRequestData debitResultData bankEnrolmentData debitData dataFront
 front-starts k zero h = of-form (λ f. starts (rowsFor f Data) 0) refl (k .form)
 front-starts k (suc zero) h = of-form (λ f. starts (rowsFor f Data) 1) refl (k .form)
 front-starts k (suc (suc zero)) h = of-form (λ f. starts (rowsFor f Data) 2) refl (k .form)

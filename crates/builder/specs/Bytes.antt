@@ -7,7 +7,7 @@ use lib.ListN.{length, getD}
 use Rattle.laws.specs.Least.{least}
 use Rattle.tables.specs.declared.row.Row.{Row}
 use Rattle.tables.specs.declared.row.Class.{Class}
-use Rattle.tables.specs.declared.row.Class.the-variants.{Each, CodeText, Filled, Owner, Institution, KindName, Date, NameDate, Serial, AsHeader, NotLater, Application, NotZero, Failed, FailedOrPart, Least, LongDate, HeaderFrom, Extension, PassbookForm}
+use Rattle.tables.specs.declared.row.Class.the-variants.{Each, CodeText, Filled, Owner, Institution, KindName, Date, NameDate, Serial, AsHeader, NotLater, Office, NotZero, Failed, FailedOrPart, Least, LongDate, HeaderFrom, Extension, PassbookForm, OneOf}
 use Rattle.tables.specs.Rows.{blank}
 
 -- a row is over place j, row i is, the first row that is
@@ -33,7 +33,7 @@ fillBy NameDate given letter digit theirs = given
 fillBy Serial given letter digit theirs = digit
 fillBy AsHeader given letter digit theirs = theirs
 fillBy NotLater given letter digit theirs = given
-fillBy Application given letter digit theirs = given
+fillBy Office given letter digit theirs = given
 fillBy NotZero given letter digit theirs = given
 fillBy Failed given letter digit theirs = given
 fillBy FailedOrPart given letter digit theirs = given
@@ -42,3 +42,4 @@ fillBy LongDate given letter digit theirs = given
 fillBy (HeaderFrom start) given letter digit theirs = given
 fillBy Extension given letter digit theirs = given
 fillBy PassbookForm given letter digit theirs = given
+fillBy (OneOf a b c) given letter digit theirs = given

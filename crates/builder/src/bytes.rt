@@ -21,7 +21,7 @@ pub(crate) fn fill(class: Class, given: u8, letter: u8, digit: u8, theirs: u8) -
         Class::Serial => digit,
         Class::AsHeader => theirs,
         Class::NotLater => given,
-        Class::Application => given,
+        Class::Office => given,
         Class::NotZero => given,
         Class::Failed => given,
         Class::FailedOrPart => given,
@@ -30,6 +30,7 @@ pub(crate) fn fill(class: Class, given: u8, letter: u8, digit: u8, theirs: u8) -
         Class::HeaderFrom(_) => given,
         Class::Extension => given,
         Class::PassbookForm => given,
+        Class::OneOf(_, _, _) => given,
     }
 }
 

@@ -33,6 +33,7 @@ use Rattle.cms.proofs.of_days.cms_day_read.Reads as day-read
 use Rattle.cms.proofs.of_days.cms_day_body.Reads as day-body
 use Rattle.cms.proofs.of_days.cms_day_write.Reads as day-write
 use Rattle.cms.proofs.of_boards.cms_board_post as board-post
+use Rattle.cms.proofs.of_changes.cms_write_eb12.Reads as write-eb12
 use Rattle.payers.specs.declared.members.Member.{Member}
 use Rattle.dues.specs.Posting.{boardTold, boardAfter, datesAfter}
 use Rattle.telling.specs.Numbers.{five}
@@ -114,6 +115,9 @@ day-body-alike = alike day-body.Post _ _ (λ κ x r s p. p .0 with p .1 also end
 
 pub day-write-alike : Alike day-write.Post (λ κ r s. sees r (now (s .1 .1 .1 .0) ∷ now (s .1 .1 .1 .1 .0) ∷ []))
 day-write-alike = alike day-write.Post _ _ (λ κ x r s p. p .0 with p .1 .0 also p .1 .1 also end)
+
+pub write-eb12-alike : Alike write-eb12.Post (λ κ r s. sees r (now (s .1 .1 .0) ∷ now (s .1 .1 .1 .0) ∷ []))
+write-eb12-alike = alike write-eb12.Post _ _ (λ κ x r s p. p .0 with p .1 .0 also p .1 .1 also end)
 
 -- of a posting the members are seen, too
 pub record SeenBoard : Type 0 where

@@ -5,15 +5,9 @@ use mathlib.Core.List.{List, [], _∷_, _++_, append-assoc, append-nil}
 use mathlib.Core.Path.{_≡_, refl, sym, _∙_, ap}
 use native.Mathlib.Omega.{arith}
 use lib.ListN.{length, replicate, length-append}
-use lib.Seq.{take-append-seam, drop-append-seam, drop-append-add}
 use Rattle.laws.specs.Stored.{stored}
+use Rattle.laws.proofs.Stores.{stored-over}
 use Rattle.consent.specs.Comparing.{longDate}
-
--- stored over something as long
-pub stored-over :
-    (at : ℕ) (x y z b : List ℕ) → length x ≡ at → length y ≡ length b → stored at b (x ++ (y ++ z)) ≡ x ++ (b ++ z)
-stored-over at x y z b e f =
-    rw (← e, take-append-seam x (y ++ z), drop-append-add x (y ++ z) (length b), ← f, drop-append-seam y z) (append-assoc x b z)
 
 pub long-stored : (date : List ℕ) → length date ≡ 6 → stored 2 date (0x32 ∷ 0x30 ∷ replicate 6 0x20) ≡ longDate date
 long-stored date e =

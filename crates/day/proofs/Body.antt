@@ -15,30 +15,48 @@ use Rattle.numbers.specs.Numbers.{wordOf}
 use Rattle.kinds.specs.declared.of_files.Kind.{Kind}
 use Rattle.kinds.specs.declared.of_files.Named.{Named}
 use Rattle.kinds.specs.declared.of_files.Named.the-variants.{Is, Unknown}
-use Rattle.kinds.specs.Kinds.{fixedOf, kindOf}
+use Rattle.kinds.specs.Kinds.{fixedOf, dailyOf}
 use Rattle.tables.proofs.Tiling.{size-least}
 use Rattle.answers.specs.Answers.{accepted, refused, refusedAt, refuses}
 use Rattle.answers.proofs.Refusals.{number-of, refuses-zero, refuses-other, tested, then-first, then-second, then-zero}
-use Rattle.reader.specs.Reading.{readAs, readOf}
-use Rattle.reader.proofs.Exact.{read-exact}
-use Rattle.reader.proofs.Accepted.{read-zero, read-known, read-named}
-use Rattle.day.specs.Bodies.{nameTold, bodyTold}
+use Rattle.reader.specs.Reading.{readAs, readNamed}
+use Rattle.reader.proofs.Exact.{accepted-meets}
+use Rattle.reader.proofs.Accepted.{read-zero}
+use Rattle.day.specs.Bodies.{nameTold, readDaily, bodyTold}
 use Rattle.day.specs.Meets.{Belongs}
 use Rattle.day.specs.First.{BodySays, unknown, broken, other}
 
--- a file that is accepted has two records, and each has 120 bytes at least
-pub good-long : (kind : ℕ) (s : List ℕ) → readOf kind s .number ≡ 0 → 240 ≤ length s
-good-long kind s z =
-    let known = read-known kind s z in
-    let k = known .k in
-    let m = known .meets in
-    rw (m .lengths .whole) (le-trans (omega (arith, size-least k)) (mul-le-mul-right (fixedOf k .size) (m .lengths .fewest)))
+-- a body that is accepted under a number is one of the kind that the number names
+record Known (kind : ℕ) (s : List ℕ) : Type 0 where
+  k : Kind
+  named : dailyOf kind ≡ Is k
+  good : readAs k s .number ≡ 0
 
--- number 0 is accepted
-read-accepted : (kind : ℕ) (s : List ℕ) → readOf kind s .number ≡ 0 → readOf kind s ≡ accepted
-read-accepted kind s z =
-    let known = read-known kind s z in
-    read-named kind s (known .k) (known .named) ∙ read-exact (known .k) s .1 (known .meets)
+module _ (kind : ℕ) (s : List ℕ) where
+  named-known : (n : Named) → dailyOf kind ≡ n → readNamed n s .number ≡ 0 → Known kind s
+  named-known (Is k) e z = record { k = k; named = e; good = z }
+  named-known Unknown e z = absurd (omega arith)
+
+  daily-known : readDaily kind s .number ≡ 0 → Known kind s
+  unfolding readDaily
+  daily-known z = named-known (dailyOf kind) refl z
+
+  -- a kind of a day file is read as it is
+  daily-named : (k : Kind) → dailyOf kind ≡ Is k → readDaily kind s ≡ readAs k s
+  unfolding readDaily
+  daily-named k e = rw e
+
+  -- a file that is accepted has two records, and each has 120 bytes at least
+  pub good-long : readDaily kind s .number ≡ 0 → 240 ≤ length s
+  good-long z =
+      let known = daily-known z in
+      let k = known .k in
+      let m = accepted-meets k s (known .good) in
+      rw (m .lengths .whole) (le-trans (omega (arith, size-least k)) (mul-le-mul-right (fixedOf k .size) (m .lengths .fewest)))
+
+  -- number 0 is accepted
+  read-accepted : readDaily kind s .number ≡ 0 → readDaily kind s ≡ accepted
+  read-accepted z = let known = daily-known z in daily-named (known .k) (known .named) ∙ read-zero (known .k) s (known .good)
 
 module _ (name body : List ℕ) where
   -- a body is good exactly when it belongs to its name
@@ -56,18 +74,18 @@ module _ (name body : List ℕ) where
   good-body b = then-second _ _ (number-of (b .good)) ∙ rw (b .item4, same-self name)
 
   -- what is told of one that is refused
-  told-unknown : kindOf (wordOf name) ≡ Unknown → bodyTold name body ≡ refused 1
-  unfolding bodyTold readOf
+  told-unknown : dailyOf (wordOf name) ≡ Unknown → bodyTold name body ≡ refused 1
+  unfolding bodyTold readDaily
   told-unknown e = rw e (then-first (refused 1) (nameTold name body) (λ q. omega arith))
 
-  module _ (k : Kind) (e : kindOf (wordOf name) ≡ Is k) where
+  module _ (k : Kind) (e : dailyOf (wordOf name) ≡ Is k) where
     told-broken : (readAs k body .number ≡ 0 → ⊥) → bodyTold name body ≡ readAs k body
     unfolding bodyTold
-    told-broken ne = rw (read-named (wordOf name) body k e) (then-first (readAs k body) (nameTold name body) ne)
+    told-broken ne = rw (daily-named (wordOf name) body k e) (then-first (readAs k body) (nameTold name body) ne)
 
     told-name : readAs k body .number ≡ 0 → bodyTold name body ≡ nameTold name body
     unfolding bodyTold
-    told-name z = rw (read-named (wordOf name) body k e) (then-second (readAs k body) (nameTold name body) z)
+    told-name z = rw (daily-named (wordOf name) body k e) (then-second (readAs k body) (nameTold name body) z)
 
     name-other : same (part 19 8 body) name ≡ false → nameTold name body ≡ refusedAt 5 0 4 0x30303030
     unfolding nameTold
@@ -91,9 +109,9 @@ module _ (name body : List ℕ) where
             (λ n. rw (told-name z ∙ name-other n) (other k e (read-zero k body z) (λ q. clash (rw q (same-self name)) n)))
             (either (same (part 19 8 body) name))
 
-  says-by : (n : Named) → kindOf (wordOf name) ≡ n → (bodyTold name body .number ≡ 0 → ⊥) → BodySays name body (bodyTold name body)
+  says-by : (n : Named) → dailyOf (wordOf name) ≡ n → (bodyTold name body .number ≡ 0 → ⊥) → BodySays name body (bodyTold name body)
   says-by Unknown e ne = rw (told-unknown e) (unknown e)
   says-by (Is k) e ne = says-known k e ne
 
   pub body-says : (bodyTold name body .number ≡ 0 → ⊥) → BodySays name body (bodyTold name body)
-  body-says = says-by (kindOf (wordOf name)) refl
+  body-says = says-by (dailyOf (wordOf name)) refl

@@ -13,7 +13,8 @@ use Rattle.answers.specs.declared.of_day.DayAnswer.{DayAnswer}
 use Rattle.answers.specs.Answers.{accepted, refusedAt, refusesAt, _then_}
 use Rattle.answers.specs.OfDay.{dayAccepted, otherLength, repeatedName, refusedBody}
 use Rattle.keys.specs.Keys.{repeatsIn}
-use Rattle.reader.specs.Reading.{readOf}
+use Rattle.kinds.specs.Kinds.{dailyOf}
+use Rattle.reader.specs.Reading.{readNamed}
 use Rattle.day.specs.Contents.{lengthEnd}
 
 -- lengths by a list of them, and that each of n has five digits
@@ -31,9 +32,13 @@ bodyIn size bodies i = part (sum size i) (size i) bodies
 unfoldable pub nameTold : List ℕ → List ℕ → Answer
 nameTold name body = cond (same (part 19 8 body) name) accepted (refusedAt 5 0 4 0x30303030)
 
--- one body: 1 where the name's first four letters are no kind, else what reading it as that kind says; last its name
+-- as reading it, of kinds that go into a day file; all others are 1
+unfoldable pub readDaily : ℕ → List ℕ → Answer
+readDaily kind s = readNamed (dailyOf kind) s
+
+-- one body: 1 where the name's first four letters are no kind of a day file, else what reading it as that kind says; last its name
 unfoldable pub bodyTold : List ℕ → List ℕ → Answer
-bodyTold name body = readOf (wordOf name) body then nameTold name body
+bodyTold name body = readDaily (wordOf name) body then nameTold name body
 
 unfoldable pub bodyToldAt : (ℕ → List ℕ) → (ℕ → ℕ) → List ℕ → ℕ → Answer
 bodyToldAt name size bodies i = bodyTold (name i) (bodyIn size bodies i)

@@ -10,7 +10,7 @@ use Rattle.text.specs.Characters.{digits}
 use Rattle.numbers.specs.Numbers.{wordOf}
 use Rattle.kinds.specs.declared.of_files.Kind.{Kind}
 use Rattle.kinds.specs.declared.of_files.Named.the-variants.{Is, Unknown}
-use Rattle.kinds.specs.Kinds.{kindOf}
+use Rattle.kinds.specs.Kinds.{dailyOf}
 use Rattle.answers.specs.declared.told.Answer.{Answer}
 use Rattle.answers.specs.declared.of_day.DayAnswer.{DayAnswer}
 use Rattle.answers.specs.Answers.{accepted, refused, refusedAt}
@@ -38,12 +38,12 @@ pub record Listed (name : ℕ → List ℕ) (size : ℕ → ℕ) (n : ℕ) (bodi
 
 -- what is told of a body that is refused
 pub data BodySays (name body : List ℕ) : Answer → Type 0 where
-  -- 1: its name says no kind
-  unknown : kindOf (wordOf name) ≡ Unknown → BodySays name body (refused 1)
+  -- 1: its name says no kind of a day file
+  unknown : dailyOf (wordOf name) ≡ Unknown → BodySays name body (refused 1)
   -- as reading it as the kind that its name says
-  broken : (k : Kind) → kindOf (wordOf name) ≡ Is k → (readAs k body .number ≡ 0 → ⊥) → BodySays name body (readAs k body)
+  broken : (k : Kind) → dailyOf (wordOf name) ≡ Is k → (readAs k body .number ≡ 0 → ⊥) → BodySays name body (readAs k body)
   -- 5 at item 4 of the header: it is accepted so, and has another name
-  other : (k : Kind) → kindOf (wordOf name) ≡ Is k → readAs k body ≡ accepted → (part 19 8 body ≡ name → ⊥) →
+  other : (k : Kind) → dailyOf (wordOf name) ≡ Is k → readAs k body ≡ accepted → (part 19 8 body ≡ name → ⊥) →
       BodySays name body (refusedAt 5 0 4 0x30303030)
 
 -- what is told of n bodies

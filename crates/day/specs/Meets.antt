@@ -8,8 +8,8 @@ use Rattle.laws.specs.Part.{part}
 use Rattle.numbers.specs.Numbers.{wordOf, digitsOf}
 use Rattle.answers.specs.Answers.{accepted}
 use Rattle.keys.specs.Keys.{Distinct}
-use Rattle.reader.specs.Reading.{readOf}
 use Rattle.day.specs.Contents.{form, most, lengthEnd}
+use Rattle.day.specs.Bodies.{readDaily}
 
 -- the entry of body i + 1: its name and five digits of its length
 unfoldable pub entryOf : (ℕ → List ℕ) → (ℕ → ℕ) → ℕ → List ℕ
@@ -19,9 +19,9 @@ entryOf name size i = name i ++ digitsOf 5 (size i)
 unfoldable pub fileOf : (ℕ → List ℕ) → (ℕ → ℕ) → ℕ → List ℕ → List ℕ
 fileOf name size n bodies = (form ∷ []) ++ (digitsOf 2 n ++ (joined (entryOf name size) n ++ bodies))
 
--- a body is accepted as the kind that its name says, and item 4 of its header is the name
+-- a body is accepted as the kind of a day file that its name says, and item 4 of its header is the name
 pub record Belongs (name body : List ℕ) : Type 0 where
-  pub good : readOf (wordOf name) body ≡ accepted
+  pub good : readDaily (wordOf name) body ≡ accepted
   pub item4 : part 19 8 body ≡ name
 
 -- its name has eight bytes, and its length five digits

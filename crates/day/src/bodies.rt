@@ -6,12 +6,14 @@ ghost use lib.ListN.{length};
 ghost use Rattle.laws.specs.Sum.{sum};
 ghost use Rattle.keys.specs.Stands.{keyIn, Inside};
 ghost use Rattle.day.specs.Contents.{most, lengthEnd};
-ghost use Rattle.day.specs.Bodies.{sizeAt, Short, nameTold, bodyTold, bodiesTold, listTold};
+ghost use Rattle.day.specs.Bodies.{sizeAt, Short, nameTold, readDaily, bodyTold, bodiesTold, listTold};
 use crate::contents::NAME;
 use answers::of_day::DayAnswer;
 use answers::told::Answer;
 use keys::stands;
 use keys::stands::Spacing;
+use kinds::of_files;
+use kinds::of_files::Named;
 use numbers::base_ten;
 use reader::reading;
 use reader::repeats;
@@ -47,11 +49,22 @@ fn name_tells(name: &[u8], body: &[u8]) -> Answer
     Answer::refused_at(5, 0, 4, Answer::UNUSED)
 }
 
+// As reading it, of kinds that go into a day file; all others are 1.
+fn read_daily(kind: u64, body: &[u8]) -> Answer
+    ensures { λ r. ⌜ r ≡ readDaily kind (now (body .entry)) ⌝ }
+{
+    let named = of_files::daily_of(kind);
+    match named {
+        Named::Is(daily) => reading::read_as(daily, body),
+        Named::Unknown => Answer::refused(1),
+    }
+}
+
 // One body: reading it as the kind that its name says, then its name.
 fn body_tells(name: &[u8], body: &[u8]) -> Answer
     ensures { λ r. ⌜ r ≡ bodyTold (now (name .entry)) (now (body .entry)) ⌝ }
 {
-    let of_reading = reading::read(base_ten::word(name), body);
+    let of_reading = read_daily(base_ten::word(name), body);
     if of_reading.number != 0 {
         return of_reading;
     }

@@ -4,21 +4,34 @@ use mathlib.Core.Bool.{Bool, true, _&&_}
 use mathlib.Core.Path.{_≡_}
 use Rattle.laws.proofs.Bools.{and-left, and-right}
 use Rattle.kinds.specs.declared.of_files.Form.{Form}
-use Rattle.kinds.specs.declared.of_files.Form.the-variants.{EnrolmentRequest, EnrolmentResult, DebitRequest, DebitResult}
+use Rattle.kinds.specs.declared.of_files.Form.the-variants.{EnrolmentRequest, EnrolmentResult, DebitRequest, DebitResult, BankEnrolment}
 use Rattle.kinds.specs.declared.of_files.Role.{Role}
 use Rattle.kinds.specs.declared.of_files.Role.the-variants.{Header, Data, Trailer}
 use Rattle.kinds.specs.declared.of_pairs.Family.{Family}
 use Rattle.kinds.specs.declared.of_pairs.Family.the-variants.{Enrolment, Debit}
 
 -- the test holds of every form
+abbrev everyPaired : (Form → Bool) → Bool
+everyPaired p = (p EnrolmentRequest && p EnrolmentResult) && (p DebitRequest && p DebitResult)
+
 abbrev pub everyForm : (Form → Bool) → Bool
-everyForm p = (p EnrolmentRequest && p EnrolmentResult) && (p DebitRequest && p DebitResult)
+everyForm p = everyPaired p && p BankEnrolment
+
+of-paired : (p : Form → Bool) → everyForm p ≡ true → everyPaired p ≡ true
+of-paired p = and-left (everyPaired p) (p BankEnrolment)
+
+of-enrolment : (p : Form → Bool) → everyForm p ≡ true → (p EnrolmentRequest && p EnrolmentResult) ≡ true
+of-enrolment p t = and-left (p EnrolmentRequest && p EnrolmentResult) (p DebitRequest && p DebitResult) (of-paired p t)
+
+of-debit : (p : Form → Bool) → everyForm p ≡ true → (p DebitRequest && p DebitResult) ≡ true
+of-debit p t = and-right (p EnrolmentRequest && p EnrolmentResult) (p DebitRequest && p DebitResult) (of-paired p t)
 
 pub of-form : (p : Form → Bool) → everyForm p ≡ true → (f : Form) → p f ≡ true
-of-form p t EnrolmentRequest = and-left (p EnrolmentRequest) (p EnrolmentResult) (and-left (p EnrolmentRequest && p EnrolmentResult) (p DebitRequest && p DebitResult) t)
-of-form p t EnrolmentResult = and-right (p EnrolmentRequest) (p EnrolmentResult) (and-left (p EnrolmentRequest && p EnrolmentResult) (p DebitRequest && p DebitResult) t)
-of-form p t DebitRequest = and-left (p DebitRequest) (p DebitResult) (and-right (p EnrolmentRequest && p EnrolmentResult) (p DebitRequest && p DebitResult) t)
-of-form p t DebitResult = and-right (p DebitRequest) (p DebitResult) (and-right (p EnrolmentRequest && p EnrolmentResult) (p DebitRequest && p DebitResult) t)
+of-form p t EnrolmentRequest = and-left (p EnrolmentRequest) (p EnrolmentResult) (of-enrolment p t)
+of-form p t EnrolmentResult = and-right (p EnrolmentRequest) (p EnrolmentResult) (of-enrolment p t)
+of-form p t DebitRequest = and-left (p DebitRequest) (p DebitResult) (of-debit p t)
+of-form p t DebitResult = and-right (p DebitRequest) (p DebitResult) (of-debit p t)
+of-form p t BankEnrolment = and-right (everyPaired p) (p BankEnrolment) t
 
 -- it holds of every record of every form
 abbrev pub everyRole : (Role → Bool) → Bool

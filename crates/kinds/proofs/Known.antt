@@ -12,9 +12,10 @@ use Rattle.laws.proofs.Bools.{either, clash}
 use Rattle.laws.proofs.Every.{every, every-at}
 use Rattle.laws.proofs.Leasts.{least-is}
 use Rattle.kinds.specs.declared.of_files.Kind.{Kind}
+use Rattle.kinds.specs.declared.of_files.Fixed.{Fixed}
 use Rattle.kinds.specs.declared.of_files.Named.{Named}
 use Rattle.kinds.specs.declared.of_files.Named.the-variants.{Is, Unknown}
-use Rattle.kinds.specs.Kinds.{fixedOf, kinds, noKind, kindFrom, nameIs, kindOf, written, requestOf}
+use Rattle.kinds.specs.Kinds.{fixedOf, kinds, noKind, kindFrom, nameIs, kindOf, whose, requestOf, dailyOf}
 
 -- what a name says, and whether it says a kind
 abbrev kindIn : Named → Kind
@@ -61,21 +62,29 @@ known-every p t n k e = ⊎-elim found none (either (ltb m (length kinds)))
     none : ltb m (length kinds) ≡ false → p k ≡ true
     none f = absurd (clash refl (sym (ap isKnown (rw f at e))))
 
--- a kind that is written is the same kind to the reader, and its form says so
-module _ (n : ℕ) (k : Kind) where
-  written-is : (l : Kind) → written (Is l) ≡ Is k → (l ≡ k) × (fixedOf k .written ≡ true)
-  written-is l e = ⊎-elim yes no (either (fixedOf l .written))
+-- a kind of which a test holds is the same kind to the reader, and the test holds of its form's numbers
+module _ (p : Fixed → Bool) (n : ℕ) (k : Kind) where
+  abbrev Tested : Kind → Type 0
+  Tested l = (l ≡ k) × (p (fixedOf k) ≡ true)
+
+  whose-is : (l : Kind) → whose p (Is l) ≡ Is k → Tested l
+  whose-is l e = ⊎-elim yes no (either (p (fixedOf l)))
     where
-      yes : fixedOf l .written ≡ true → (l ≡ k) × (fixedOf k .written ≡ true)
+      yes : p (fixedOf l) ≡ true → Tested l
       yes t = let same = ap kindIn (rw t at e) in (same, rw (← same) t)
 
-      no : fixedOf l .written ≡ false → (l ≡ k) × (fixedOf k .written ≡ true)
+      no : p (fixedOf l) ≡ false → Tested l
       no f = absurd (clash refl (sym (ap isKnown (rw f at e))))
 
-  named-written : (m : Named) → kindOf n ≡ m → written m ≡ Is k → (kindOf n ≡ Is k) × (fixedOf k .written ≡ true)
-  named-written (Is l) e w = let x = written-is l w in (e ∙ ap Is (x .0), x .1)
-  named-written Unknown e w = absurd (clash refl (sym (ap isKnown w)))
+  named-whose : (m : Named) → kindOf n ≡ m → whose p m ≡ Is k → (kindOf n ≡ Is k) × (p (fixedOf k) ≡ true)
+  named-whose (Is l) e w = let x = whose-is l w in (e ∙ ap Is (x .0), x .1)
+  named-whose Unknown e w = absurd (clash refl (sym (ap isKnown w)))
 
+module _ (n : ℕ) (k : Kind) where
   pub request-known : requestOf n ≡ Is k → (kindOf n ≡ Is k) × (fixedOf k .written ≡ true)
   unfolding requestOf
-  request-known w = named-written (kindOf n) refl w
+  request-known w = named-whose (λ f. f .written) n k (kindOf n) refl w
+
+  pub daily-known : dailyOf n ≡ Is k → (kindOf n ≡ Is k) × (fixedOf k .daily ≡ true)
+  unfolding dailyOf
+  daily-known w = named-whose (λ f. f .daily) n k (kindOf n) refl w

@@ -1,6 +1,6 @@
 // The file kinds: each is a form with its own name and numbers.
 ghost use mathlib.Core.Path.{_≡_};
-ghost use Rattle.kinds.specs.Kinds.{kindOf, requestOf, fixedOf, enrolment, debit};
+ghost use Rattle.kinds.specs.Kinds.{kindOf, requestOf, dailyOf, fixedOf, enrolment, debit};
 
 // The most data records that a file may have.
 pub const LIMIT: usize = 430;
@@ -11,6 +11,7 @@ pub enum Form {
     EnrolmentResult,
     DebitRequest,
     DebitResult,
+    BankEnrolment,
 }
 
 // What a kind has of its own.
@@ -22,6 +23,11 @@ pub struct Own {
 }
 
 impl Own {
+    pub const EB11: Own = Own {
+        name: 0x4542_3131,
+        least: 0,
+    };
+
     pub const EB13: Own = Own {
         name: 0x4542_3133,
         least: 0,
@@ -59,6 +65,11 @@ pub struct Kind {
 }
 
 impl Kind {
+    pub const EB11: Kind = Kind {
+        form: Form::BankEnrolment,
+        own: Own::EB11,
+    };
+
     pub const EB13: Kind = Kind {
         form: Form::EnrolmentRequest,
         own: Own::EB13,
@@ -90,7 +101,8 @@ impl Kind {
     };
 }
 
-const KINDS: [Kind; 6] = [
+const KINDS: [Kind; 7] = [
+    Kind::EB11,
     Kind::EB13,
     Kind::EB14,
     Kind::EB21,
@@ -133,8 +145,9 @@ pub struct Fixed {
     pub mark: usize,
     // how many items of a request's and its result's header must agree
     pub agreed: usize,
-    // whether a file of this form is written
+    // whether a file of this form is written, and whether one goes into a day file
     pub written: bool,
+    pub daily: bool,
 }
 
 impl Fixed {
@@ -179,8 +192,8 @@ impl Fixed {
 
     pub const DEBIT_AGREED: usize = 4;
 
-    fn enrolment(written: bool) -> Self
-        ensures { λ r. ⌜ r ≡ enrolment written ⌝ }
+    fn enrolment(written: bool, daily: bool) -> Self
+        ensures { λ r. ⌜ r ≡ enrolment written daily ⌝ }
     {
         Fixed {
             size: Fixed::ENROLMENT_SIZE,
@@ -191,6 +204,7 @@ impl Fixed {
             mark: Fixed::ENROLMENT_MARK,
             agreed: Fixed::ENROLMENT_AGREED,
             written,
+            daily,
         }
     }
 
@@ -206,6 +220,7 @@ impl Fixed {
             mark: Fixed::DEBIT_MARK,
             agreed: Fixed::DEBIT_AGREED,
             written,
+            daily: true,
         }
     }
 
@@ -214,10 +229,11 @@ impl Fixed {
     {
         let form = kind.form;
         match form {
-            Form::EnrolmentRequest => Fixed::enrolment(true),
-            Form::EnrolmentResult => Fixed::enrolment(false),
+            Form::EnrolmentRequest => Fixed::enrolment(true, true),
+            Form::EnrolmentResult => Fixed::enrolment(false, true),
             Form::DebitRequest => Fixed::debit(true),
             Form::DebitResult => Fixed::debit(false),
+            Form::BankEnrolment => Fixed::enrolment(false, false),
         }
     }
 
@@ -252,6 +268,22 @@ pub fn request_of(name: u64) -> Named
     match named {
         Named::Is(kind) => {
             if Fixed::of(kind).written {
+                return Named::Is(kind);
+            }
+            Named::Unknown
+        }
+        Named::Unknown => Named::Unknown,
+    }
+}
+
+// The same where files of the kind go into a day file.
+pub fn daily_of(name: u64) -> Named
+    ensures { λ r. ⌜ r ≡ dailyOf name ⌝ }
+{
+    let named = kind_of(name);
+    match named {
+        Named::Is(kind) => {
+            if Fixed::of(kind).daily {
                 return Named::Is(kind);
             }
             Named::Unknown

@@ -7,7 +7,7 @@ use native.Mathlib.Nat.{le-refl, le-of-eq, add-assoc, zero-add, add-zero}
 use native.Mathlib.Numerals.{add-one}
 use native.Mathlib.Omega.{arith}
 use lib.ListN.{length, getD, set, take, drop, length-append, length-drop, drop-of-length-le, take-append-drop}
-use lib.Seq.{paste, paste-suc, take-length, take-at, take-all, drop-at, drop-append-add, drop-drop, length-take-le}
+use lib.Seq.{paste, paste-suc, take-length, take-at, take-all, take-append-seam, drop-at, drop-append-add, drop-append-seam, drop-drop, length-take-le}
 use Rattle.laws.specs.Part.{part}
 use Rattle.laws.specs.Stored.{stored}
 use Rattle.laws.proofs.Parts.{rest, part-take}
@@ -54,6 +54,12 @@ stored-none at old = rw (append-nil, add-zero at) (sym (take-append-drop at old)
 
 pub stored-all : (x old : List ℕ) → length x ≡ length old → stored 0 x old ≡ x
 stored-all x old e = rw (zero-add (length x), drop-of-length-le old {i = length x} (le-of-eq (sym e))) (append-nil x)
+
+-- stored over something as long
+pub stored-over :
+    (at : ℕ) (x y z b : List ℕ) → length x ≡ at → length y ≡ length b → stored at b (x ++ (y ++ z)) ≡ x ++ (b ++ z)
+stored-over at x y z b e f =
+    rw (← e, take-append-seam x (y ++ z), drop-append-add x (y ++ z) (length b), ← f, drop-append-seam y z) (append-assoc x b z)
 
 -- a loop that stores the bytes of x, one after the other
 pub paste-more :

@@ -5,7 +5,7 @@ use lib.ListN.{getD}
 use Rattle.laws.specs.Part.{part}
 use Rattle.numbers.specs.Numbers.{valueOf, wordOf}
 use Rattle.tables.specs.declared.copied.Copied.{Copied}
-use Rattle.tables.specs.Places.{datePlace, nameDayPlace, applicationPlace, amountPlace, debitedPlace, passbookPlace, typePlace}
+use Rattle.tables.specs.Places.{datePlace, nameDayPlace, applicationPlace, officePlace, amountPlace, debitedPlace, passbookPlace, typePlace}
 
 -- the bytes at a place, and the first of them
 abbrev pub bytesAt : Copied → List ℕ → List ℕ
@@ -24,6 +24,16 @@ nameDay header = bytesAt nameDayPlace header
 -- of an enrolment record: the application kind, item 5
 abbrev pub applicationOf : List ℕ → ℕ
 applicationOf rec = byteAt applicationPlace rec
+
+-- of an enrolment at a bank: the office code, item 10, as one number, and those that are no number, "CHNG" and "CNCL"
+abbrev pub officeOf : List ℕ → ℕ
+officeOf rec = wordOf (bytesAt officePlace rec)
+
+abbrev pub change : ℕ
+change = 0x43484E47
+
+abbrev pub cancel : ℕ
+cancel = 0x434E434C
 
 -- of a debit record: the amount, item 6; the result's mark and its code, in item 8; the passbook text, item 9; the type, item 13
 abbrev pub amountOf : List ℕ → ℕ

@@ -5,7 +5,7 @@ use mathlib.Core.List.{List}
 use lib.Dec.{leb, eqb}
 use lib.ListN.{getD, drop}
 use Rattle.laws.specs.Part.{part, same, begins}
-use Rattle.text.specs.Characters.{each, codeText, filled, digits, zeros}
+use Rattle.text.specs.Characters.{each, codeText, filled, digits, spaces, zeros}
 use Rattle.text.specs.Passbook.{passbookForm}
 use Rattle.numbers.specs.Numbers.{says, wordOf}
 use Rattle.numbers.specs.Dates.{isDate, notLater, isLongDate}
@@ -13,9 +13,9 @@ use Rattle.evidence_kinds.specs.Evidence.{extension}
 use Rattle.kinds.specs.declared.of_files.Own.{Own}
 use Rattle.tables.specs.declared.row.Row.{Row}
 use Rattle.tables.specs.declared.row.Class.{Class}
-use Rattle.tables.specs.declared.row.Class.the-variants.{Each, CodeText, Filled, Owner, Institution, KindName, Date, NameDate, Serial, AsHeader, NotLater, Application, NotZero, Failed, FailedOrPart, Least, LongDate, HeaderFrom, Extension, PassbookForm}
+use Rattle.tables.specs.declared.row.Class.the-variants.{Each, CodeText, Filled, Owner, Institution, KindName, Date, NameDate, Serial, AsHeader, NotLater, Office, NotZero, Failed, FailedOrPart, Least, LongDate, HeaderFrom, Extension, PassbookForm, OneOf}
 use Rattle.tables.specs.Codes.{isTableCode}
-use Rattle.layout.specs.Items.{dateOf, nameDay, amountOf, applicationOf}
+use Rattle.layout.specs.Items.{change, cancel, dateOf, nameDay, amountOf, applicationOf}
 
 -- item 9 of an enrolment: code text, filled unless item 5 is "3"
 unfoldable pub owner : List ℕ → List ℕ → Bool
@@ -25,9 +25,13 @@ owner item rec = cond (eqb (applicationOf rec) 0x33) (codeText item) (filled ite
 unfoldable pub institution : List ℕ → Bool
 institution item = digits item && (eqb (getD item 0 0) 0x39 && eqb (getD item 1 0) 0x39)
 
--- "1", "3" or "7"
-unfoldable pub application : List ℕ → Bool
-application item = eqb (getD item 0 0) 0x31 || (eqb (getD item 0 0) 0x33 || eqb (getD item 0 0) 0x37)
+-- one of three bytes
+unfoldable pub oneOf : ℕ → ℕ → ℕ → List ℕ → Bool
+oneOf a b c item = eqb (getD item 0 0) a || (eqb (getD item 0 0) b || eqb (getD item 0 0) c)
+
+-- four digits, spaces, "CHNG" or "CNCL"
+unfoldable pub office : List ℕ → Bool
+office item = digits item || (spaces item || (eqb (wordOf item) change || eqb (wordOf item) cancel))
 
 -- "N" and a table code
 unfoldable pub failed : List ℕ → Bool
@@ -54,7 +58,7 @@ meets NameDate o item theirs rec header n = same (drop 2 item) (nameDay rec)
 meets Serial o item theirs rec header n = says item n
 meets AsHeader o item theirs rec header n = same item theirs
 meets NotLater o item theirs rec header n = notLater item (dateOf header)
-meets Application o item theirs rec header n = application item
+meets Office o item theirs rec header n = office item
 meets NotZero o item theirs rec header n = not (zeros item)
 meets Failed o item theirs rec header n = failed item
 meets FailedOrPart o item theirs rec header n = failed item || partly item
@@ -63,6 +67,7 @@ meets LongDate o item theirs rec header n = isLongDate item
 meets (HeaderFrom start) o item theirs rec header n = begins item (drop start header)
 meets Extension o item theirs rec header n = extension (getD rec 106 0) item
 meets PassbookForm o item theirs rec header n = passbookForm item
+meets (OneOf a b c) o item theirs rec header n = oneOf a b c item
 
 -- the row's rule holds in a record
 unfoldable pub holds : Own → List ℕ → List ℕ → ℕ → Row → Bool

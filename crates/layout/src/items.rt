@@ -13,6 +13,11 @@ pub const MARK: usize = 68;
 
 pub const TYPE: usize = 116;
 
+// The office codes of an enrolment at a bank that are no number: "CHNG" and "CNCL", as one number each.
+pub const CHANGE: u64 = 0x4348_4E47;
+
+pub(crate) const CANCEL: u64 = 0x434E_434C;
+
 // The amount of a debit record.
 pub fn amount(rec: &[u8]) -> u64
     requires { ⌜ 55 ≤ length (now rec) ⌝ }

@@ -3,7 +3,7 @@ ghost use mathlib.Core.Path.{_≡_};
 ghost use mathlib.Core.Bool.{_||_};
 ghost use Prim.Native.Nat.{_+_, _≤_};
 ghost use lib.ListN.{length};
-ghost use Rattle.layout.specs.Rules.{owner, institution, application, failed, partly, enough, holds};
+ghost use Rattle.layout.specs.Rules.{owner, institution, oneOf, office, failed, partly, enough, holds};
 use crate::items;
 use evidence_kinds::allowed;
 use kinds::of_files::Own;
@@ -37,14 +37,27 @@ fn institution(item: &[u8]) -> bool
     false
 }
 
-fn application(item: &[u8]) -> bool
-    ensures { λ r. ⌜ r ≡ application (now (item .entry)) ⌝ }
+fn one_of(a: u8, b: u8, c: u8, item: &[u8]) -> bool
+    ensures { λ r. ⌜ r ≡ oneOf a b c (now (item .entry)) ⌝ }
 {
-    let kind = parts::byte(item, 0);
-    if kind == b'1' {
+    let first = parts::byte(item, 0);
+    if first == a {
         return true;
     }
-    kind == b'3' || kind == b'7'
+    first == b || first == c
+}
+
+fn office(item: &[u8]) -> bool
+    ensures { λ r. ⌜ r ≡ office (now (item .entry)) ⌝ }
+{
+    if characters::each(b'0', b'9', item) {
+        return true;
+    }
+    if characters::each(b' ', b' ', item) {
+        return true;
+    }
+    let word = base_ten::word(item);
+    word == items::CHANGE || word == items::CANCEL
 }
 
 fn failed(item: &[u8]) -> bool
@@ -94,7 +107,7 @@ pub(crate) fn holds(own: Own, row: Row, rec: &[u8], header: &[u8], number: u64) 
         Class::Serial => base_ten::says(item, number),
         Class::AsHeader => parts::same(item, parts::part(header, start, size)),
         Class::NotLater => dates::not_later(item, parts::part(header, 27, 6)),
-        Class::Application => application(item),
+        Class::Office => office(item),
         Class::NotZero => !characters::each(b'0', b'0', item),
         Class::Failed => failed(item),
         Class::FailedOrPart => failed(item) || partly(item),
@@ -103,5 +116,6 @@ pub(crate) fn holds(own: Own, row: Row, rec: &[u8], header: &[u8], number: u64) 
         Class::HeaderFrom(from) => parts::begins(item, parts::rest(header, from as usize)),
         Class::Extension => allowed::extension(parts::byte(rec, 106), item),
         Class::PassbookForm => passbook::passbook_form(item),
+        Class::OneOf(a, b, c) => one_of(a, b, c, item),
     }
 }

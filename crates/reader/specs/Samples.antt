@@ -7,7 +7,7 @@ use Rattle.laws.specs.Tabulate.{tabulate}
 use Rattle.numbers.specs.Numbers.{digitsOf, letterOf}
 use Rattle.kinds.specs.declared.of_files.Kind.{Kind}
 use Rattle.kinds.specs.declared.of_files.Form.{Form}
-use Rattle.kinds.specs.declared.of_files.Form.the-variants.{EnrolmentRequest, EnrolmentResult, DebitRequest, DebitResult}
+use Rattle.kinds.specs.declared.of_files.Form.the-variants.{EnrolmentRequest, EnrolmentResult, DebitRequest, DebitResult, BankEnrolment}
 
 abbrev pub blanks : ℕ → List ℕ
 blanks n = replicate n 0x20
@@ -22,6 +22,7 @@ headerRest EnrolmentRequest = blanks 87
 headerRest EnrolmentResult = blanks 87
 headerRest DebitRequest = all (digitsOf 7 46554 ∷ digitsOf 11 65501053333 ∷ blanks 5 ∷ blanks 94 ∷ [])
 headerRest DebitResult = all (digitsOf 7 46554 ∷ digitsOf 11 65501053333 ∷ blanks 5 ∷ blanks 94 ∷ [])
+headerRest BankEnrolment = blanks 87
 
 -- a kind's four letters
 unfoldable pub letters : Kind → List ℕ
@@ -42,6 +43,7 @@ noTotals EnrolmentRequest = digitsOf 40 0 ++ blanks 53
 noTotals EnrolmentResult = digitsOf 40 0 ++ blanks 53
 noTotals DebitRequest = digitsOf 50 0 ++ blanks 73
 noTotals DebitResult = digitsOf 84 0 ++ blanks 39
+noTotals BankEnrolment = digitsOf 40 0 ++ blanks 53
 
 -- a header and a trailer, no data records
 unfoldable pub emptyOn : Kind → ℕ → ℕ → List ℕ

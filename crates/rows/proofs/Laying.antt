@@ -20,7 +20,7 @@ use Rattle.tables.specs.declared.row.Row.{Row}
 use Rattle.kinds.specs.Kinds.{fixedOf}
 use Rattle.kinds.proofs.Forms.{of-record}
 use Rattle.tables.specs.Rows.{blank}
-use Rattle.tables.specs.Tables.{headerFront, enrolmentHeader, debitHeader, dataFront, enrolmentData, debitData, enrolmentRequestData, enrolmentResultData, debitRequestData, debitResultData, trailerFront, enrolmentTrailer, enrolmentRequestTrailer, enrolmentResultTrailer, debitRequestTrailer, debitResultTrailer, rowsFor, rowsOf}
+use Rattle.tables.specs.Tables.{headerFront, enrolmentHeader, debitHeader, dataFront, enrolmentData, debitData, enrolmentRequestData, enrolmentResultData, debitRequestData, debitResultData, bankEnrolmentData, trailerFront, enrolmentTrailer, enrolmentRequestTrailer, enrolmentResultTrailer, debitRequestTrailer, debitResultTrailer, rowsFor, rowsOf}
 use Rattle.tables.proofs.Tiling.{row-inside}
 use Rattle.rows.specs.Laid.{laid, most, laidOut}
 
@@ -81,7 +81,7 @@ module _ (p : Row → Bool) (rows : List Row) where
 
 -- no record of any form has more rows than places
 tables-fit : (f : Form) (role : Role) → leb (length (rowsFor f role)) most ≡ true
-unfolding headerFront enrolmentHeader debitHeader dataFront enrolmentData debitData enrolmentRequestData enrolmentResultData debitRequestData debitResultData trailerFront enrolmentTrailer enrolmentRequestTrailer enrolmentResultTrailer debitRequestTrailer debitResultTrailer
+unfolding headerFront enrolmentHeader debitHeader dataFront enrolmentData debitData enrolmentRequestData enrolmentResultData debitRequestData debitResultData bankEnrolmentData trailerFront enrolmentTrailer enrolmentRequestTrailer enrolmentResultTrailer debitRequestTrailer debitResultTrailer
 tables-fit = of-record (λ f role. leb (length (rowsFor f role)) most) refl
 
 pub rows-fit : (k : Kind) (role : Role) → length (rowsOf k role) ≤ most

@@ -1,6 +1,6 @@
 // The rows of every record of every form. A code is its four bytes as one number; "0000" where breaking the rule is refusal 5.
 ghost use mathlib.Core.Path.{_≡_};
-ghost use Rattle.tables.specs.Tables.{enrolmentHeader, debitHeader, enrolmentRequestData, enrolmentResultData, debitRequestData, debitResultData, enrolmentRequestTrailer, enrolmentResultTrailer, debitRequestTrailer, debitResultTrailer, rowsOf};
+ghost use Rattle.tables.specs.Tables.{enrolmentHeader, debitHeader, enrolmentRequestData, enrolmentResultData, debitRequestData, debitResultData, bankEnrolmentData, enrolmentRequestTrailer, enrolmentResultTrailer, debitRequestTrailer, debitResultTrailer, rowsOf};
 ghost use Rattle.rows.specs.Laid.{laidOut};
 use kinds::of_files::Form;
 use kinds::of_files::Kind;
@@ -32,6 +32,12 @@ const TYPES: Class = Class::Each(b'0', b'6');
 const FREE: Class = Class::Each(0x20, 0x7E);
 
 const PASSBOOK: Class = Class::Each(0x20, 0xFF);
+
+const APPLICATIONS: Class = Class::OneOf(b'1', b'3', b'7');
+
+const CHECKS: Class = Class::OneOf(b'Y', b'N', b' ');
+
+const CHANNELS: Class = Class::OneOf(b'1', b'4', b'4');
 
 const C0000: u32 = 0x3030_3030;
 
@@ -108,7 +114,7 @@ const ENROLMENT_REQUEST_DATA: [Row; MOST] = [
     Row(2, 1, 8, Class::Serial, C0081),
     Row(3, 9, 10, Class::AsHeader, C0000),
     Row(4, 19, 6, Class::NotLater, CA011),
-    Row(5, 25, 1, Class::Application, CA012),
+    Row(5, 25, 1, APPLICATIONS, CA012),
     Row(6, 26, 20, Class::Filled, C0098),
     Row(7, 46, 7, DIGITS, C0011),
     Row(8, 53, 16, Class::Filled, C0098),
@@ -129,7 +135,7 @@ const ENROLMENT_RESULT_DATA: [Row; MOST] = [
     Row(2, 1, 8, Class::Serial, C0081),
     Row(3, 9, 10, Class::AsHeader, C0000),
     Row(4, 19, 6, Class::NotLater, CA011),
-    Row(5, 25, 1, Class::Application, CA012),
+    Row(5, 25, 1, APPLICATIONS, CA012),
     Row(6, 26, 20, Class::Filled, C0098),
     Row(7, 46, 7, DIGITS, C0011),
     Row(8, 53, 16, Class::Filled, C0098),
@@ -140,6 +146,27 @@ const ENROLMENT_RESULT_DATA: [Row; MOST] = [
     Row(13, 96, 1, SPACES, C0089),
     Row(14, 97, 12, FREE, C0088),
     Row(15, 109, 1, SPACES, C0089),
+    Row(16, 110, 10, SPACES, C0089),
+    BLANK,
+    BLANK,
+];
+
+const BANK_ENROLMENT_DATA: [Row; MOST] = [
+    Row(1, 0, 1, MARK_R, C0081),
+    Row(2, 1, 8, Class::Serial, C0081),
+    Row(3, 9, 10, Class::AsHeader, C0000),
+    Row(4, 19, 6, Class::NotLater, CA011),
+    Row(5, 25, 1, APPLICATIONS, CA012),
+    Row(6, 26, 20, Class::Filled, C0098),
+    Row(7, 46, 7, DIGITS, C0011),
+    Row(8, 53, 16, Class::Filled, C0098),
+    Row(9, 69, 16, Class::Owner, C0098),
+    Row(10, 85, 4, Class::Office, C0088),
+    Row(11, 89, 2, Class::CodeText, C0098),
+    Row(12, 91, 5, SPACES, C0089),
+    Row(13, 96, 1, CHECKS, C0088),
+    Row(14, 97, 12, FREE, C0088),
+    Row(15, 109, 1, CHANNELS, C0088),
     Row(16, 110, 10, SPACES, C0089),
     BLANK,
     BLANK,
@@ -295,6 +322,12 @@ fn enrolment_result_data() -> [Row; MOST]
     ENROLMENT_RESULT_DATA
 }
 
+fn bank_enrolment_data() -> [Row; MOST]
+    ensures { λ r. ⌜ r ≡ laidOut bankEnrolmentData ⌝ }
+{
+    BANK_ENROLMENT_DATA
+}
+
 fn debit_request_data() -> [Row; MOST]
     ensures { λ r. ⌜ r ≡ laidOut debitRequestData ⌝ }
 {
@@ -342,18 +375,21 @@ pub fn rows_of(kind: Kind, role: Role) -> [Row; MOST]
             Form::EnrolmentResult => enrolment_header(),
             Form::DebitRequest => debit_header(),
             Form::DebitResult => debit_header(),
+            Form::BankEnrolment => enrolment_header(),
         },
         Role::Data => match form {
             Form::EnrolmentRequest => enrolment_request_data(),
             Form::EnrolmentResult => enrolment_result_data(),
             Form::DebitRequest => debit_request_data(),
             Form::DebitResult => debit_result_data(),
+            Form::BankEnrolment => bank_enrolment_data(),
         },
         Role::Trailer => match form {
             Form::EnrolmentRequest => enrolment_request_trailer(),
             Form::EnrolmentResult => enrolment_result_trailer(),
             Form::DebitRequest => debit_request_trailer(),
             Form::DebitResult => debit_result_trailer(),
+            Form::BankEnrolment => enrolment_result_trailer(),
         },
     }
 }

@@ -6,13 +6,13 @@ use mathlib.Core.Path.{_≡_, refl}
 use native.Mathlib.Omega.{arith}
 use lib.ListN.{length, getD, drop, length-append, List·getD-append}
 use Rattle.kinds.specs.declared.of_files.Form.{Form}
-use Rattle.kinds.specs.declared.of_files.Form.the-variants.{EnrolmentRequest, EnrolmentResult, DebitRequest, DebitResult}
+use Rattle.kinds.specs.declared.of_files.Form.the-variants.{EnrolmentRequest, EnrolmentResult, DebitRequest, DebitResult, BankEnrolment}
 use Rattle.kinds.specs.declared.of_files.Kind.{Kind}
 use Rattle.kinds.specs.declared.of_files.Role.{Role}
 use Rattle.kinds.specs.declared.of_files.Role.the-variants.{Header, Data, Trailer}
 use Rattle.tables.specs.declared.row.Row.{Row}
 use Rattle.tables.specs.Rows.{blank}
-use Rattle.tables.specs.Tables.{headerFront, enrolmentHeader, debitHeader, dataFront, enrolmentData, debitData, enrolmentRequestData, enrolmentResultData, debitRequestData, debitResultData, trailerFront, enrolmentTrailer, enrolmentRequestTrailer, enrolmentResultTrailer, debitRequestTrailer, debitResultTrailer, rowsFor, rowsOf}
+use Rattle.tables.specs.Tables.{headerFront, enrolmentHeader, debitHeader, dataFront, enrolmentData, debitData, enrolmentRequestData, enrolmentResultData, debitRequestData, debitResultData, bankEnrolmentData, trailerFront, enrolmentTrailer, enrolmentRequestTrailer, enrolmentResultTrailer, debitRequestTrailer, debitResultTrailer, rowsFor, rowsOf}
 
 -- what all records of a role begin with
 abbrev pub fronts : Role → List Row
@@ -21,7 +21,7 @@ fronts Data = dataFront
 fronts Trailer = trailerFront
 
 rows-begin : (f : Form) (role : Role) → rowsFor f role ≡ fronts role ++ drop (length (fronts role)) (rowsFor f role)
-unfolding headerFront enrolmentHeader debitHeader dataFront enrolmentData debitData enrolmentRequestData enrolmentResultData debitRequestData debitResultData trailerFront enrolmentTrailer enrolmentRequestTrailer enrolmentResultTrailer debitRequestTrailer debitResultTrailer
+unfolding headerFront enrolmentHeader debitHeader dataFront enrolmentData debitData enrolmentRequestData enrolmentResultData debitRequestData debitResultData bankEnrolmentData trailerFront enrolmentTrailer enrolmentRequestTrailer enrolmentResultTrailer debitRequestTrailer debitResultTrailer
 rows-begin EnrolmentRequest Header = refl
 rows-begin EnrolmentRequest Data = refl
 rows-begin EnrolmentRequest Trailer = refl
@@ -34,6 +34,9 @@ rows-begin DebitRequest Trailer = refl
 rows-begin DebitResult Header = refl
 rows-begin DebitResult Data = refl
 rows-begin DebitResult Trailer = refl
+rows-begin BankEnrolment Header = refl
+rows-begin BankEnrolment Data = refl
+rows-begin BankEnrolment Trailer = refl
 
 -- a record is what all of its role begin with, and the rest
 pub rows-front : (k : Kind) (role : Role) → rowsOf k role ≡ fronts role ++ drop (length (fronts role)) (rowsOf k role)

@@ -18,11 +18,11 @@ use Rattle.tables.specs.declared.row.Row.{Row}
 use Rattle.kinds.specs.Kinds.{fixedFor, fixedOf}
 use Rattle.kinds.proofs.Forms.{of-form, of-record}
 use Rattle.tables.specs.Rows.{blank, next, tilesFrom, tiles}
-use Rattle.tables.specs.Tables.{headerFront, enrolmentHeader, debitHeader, dataFront, enrolmentData, debitData, enrolmentRequestData, enrolmentResultData, debitRequestData, debitResultData, trailerFront, enrolmentTrailer, enrolmentRequestTrailer, enrolmentResultTrailer, debitRequestTrailer, debitResultTrailer, rowsFor, rowsOf}
+use Rattle.tables.specs.Tables.{headerFront, enrolmentHeader, debitHeader, dataFront, enrolmentData, debitData, enrolmentRequestData, enrolmentResultData, debitRequestData, debitResultData, bankEnrolmentData, trailerFront, enrolmentTrailer, enrolmentRequestTrailer, enrolmentResultTrailer, debitRequestTrailer, debitResultTrailer, rowsFor, rowsOf}
 
 -- the computed test, once over all tables
 tables-tile : (f : Form) (role : Role) → tiles (fixedFor f .size) (rowsFor f role) ≡ true
-unfolding tiles tilesFrom next headerFront enrolmentHeader debitHeader dataFront enrolmentData debitData enrolmentRequestData enrolmentResultData debitRequestData debitResultData trailerFront enrolmentTrailer enrolmentRequestTrailer enrolmentResultTrailer debitRequestTrailer debitResultTrailer
+unfolding tiles tilesFrom next headerFront enrolmentHeader debitHeader dataFront enrolmentData debitData enrolmentRequestData enrolmentResultData debitRequestData debitResultData bankEnrolmentData trailerFront enrolmentTrailer enrolmentRequestTrailer enrolmentResultTrailer debitRequestTrailer debitResultTrailer
 tables-tile = of-record (λ f role. tiles (fixedFor f .size) (rowsFor f role)) refl
 
 pub rows-tile : (k : Kind) (role : Role) → tiles (fixedOf k .size) (rowsOf k role) ≡ true

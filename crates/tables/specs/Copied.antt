@@ -5,7 +5,7 @@ use mathlib.Core.List.{List, [], _∷_}
 use lib.Dec.{eqb}
 use Rattle.kinds.specs.declared.of_files.Kind.{Kind}
 use Rattle.kinds.specs.declared.of_files.Form.{Form}
-use Rattle.kinds.specs.declared.of_files.Form.the-variants.{EnrolmentRequest, EnrolmentResult, DebitRequest, DebitResult}
+use Rattle.kinds.specs.declared.of_files.Form.the-variants.{EnrolmentRequest, EnrolmentResult, DebitRequest, DebitResult, BankEnrolment}
 use Rattle.tables.specs.declared.row.Row.{Row}
 use Rattle.tables.specs.declared.copied.Copied.{Copied}
 use Rattle.tables.specs.Tables.{enrolmentRequestData, debitRequestData}
@@ -38,6 +38,7 @@ copiedFor EnrolmentRequest = enrolmentCopied
 copiedFor EnrolmentResult = enrolmentCopied
 copiedFor DebitRequest = debitCopied
 copiedFor DebitResult = debitCopied
+copiedFor BankEnrolment = enrolmentCopied
 
 abbrev pub copiedOf : Kind → List Copied
 copiedOf k = copiedFor (k .form)

@@ -4,7 +4,7 @@ use mathlib.Core.Bool.{Bool, true, false, cond, _&&_, _||_}
 use mathlib.Core.List.{List, [], _∷_}
 use lib.Dec.{eqb}
 use Rattle.kinds.specs.declared.of_files.Form.{Form}
-use Rattle.kinds.specs.declared.of_files.Form.the-variants.{EnrolmentRequest, EnrolmentResult, DebitRequest, DebitResult}
+use Rattle.kinds.specs.declared.of_files.Form.the-variants.{EnrolmentRequest, EnrolmentResult, DebitRequest, DebitResult, BankEnrolment}
 use Rattle.kinds.specs.declared.of_files.Role.the-variants.{Header, Data, Trailer}
 use Rattle.kinds.specs.Kinds.{front, fixedFor}
 use Rattle.tables.specs.declared.row.Row.{Row}
@@ -42,6 +42,16 @@ memberPlace = place 6 26 20
 
 abbrev pub enrolledPlace : Copied
 enrolledPlace = place 12 91 5
+
+-- of an enrolment at a bank besides: the branch, the account, the office code
+abbrev pub bankPlace : Copied
+bankPlace = place 7 46 7
+
+abbrev pub holdingPlace : Copied
+holdingPlace = place 8 53 16
+
+abbrev pub officePlace : Copied
+officePlace = place 10 85 4
 
 -- of a debit record: the amount, the result, the passbook text, the payer, the institution's own use, the type
 abbrev pub amountPlace : Copied
@@ -86,12 +96,14 @@ headerPlaces EnrolmentRequest = codePlace ∷ nameDayPlace ∷ datePlace ∷ []
 headerPlaces EnrolmentResult = codePlace ∷ nameDayPlace ∷ datePlace ∷ []
 headerPlaces DebitRequest = codePlace ∷ nameDayPlace ∷ datePlace ∷ branchPlace ∷ accountPlace ∷ []
 headerPlaces DebitResult = codePlace ∷ nameDayPlace ∷ datePlace ∷ branchPlace ∷ accountPlace ∷ []
+headerPlaces BankEnrolment = codePlace ∷ nameDayPlace ∷ datePlace ∷ []
 
 abbrev pub dataPlaces : Form → List Copied
 dataPlaces EnrolmentRequest = applicationPlace ∷ memberPlace ∷ enrolledPlace ∷ []
 dataPlaces EnrolmentResult = applicationPlace ∷ memberPlace ∷ enrolledPlace ∷ []
 dataPlaces DebitRequest = amountPlace ∷ debitedPlace ∷ passbookPlace ∷ payerPlace ∷ usePlace ∷ typePlace ∷ []
 dataPlaces DebitResult = amountPlace ∷ debitedPlace ∷ passbookPlace ∷ payerPlace ∷ usePlace ∷ typePlace ∷ []
+dataPlaces BankEnrolment = applicationPlace ∷ memberPlace ∷ bankPlace ∷ holdingPlace ∷ officePlace ∷ enrolledPlace ∷ []
 
 -- the key is two items side by side, reported as `reported`; a result's mark begins the item of its result
 unfoldable pub keyIs : Form → Copied → Copied → Copied → Bool
@@ -104,12 +116,14 @@ keyStands EnrolmentRequest = keyIs EnrolmentRequest applicationPlace memberPlace
 keyStands EnrolmentResult = keyIs EnrolmentResult applicationPlace memberPlace memberPlace
 keyStands DebitRequest = keyIs DebitRequest payerPlace usePlace payerPlace
 keyStands DebitResult = keyIs DebitResult payerPlace usePlace payerPlace
+keyStands BankEnrolment = keyIs BankEnrolment applicationPlace memberPlace memberPlace
 
 abbrev pub markStands : Form → Bool
 markStands EnrolmentRequest = eqb (fixedFor EnrolmentRequest .mark) (enrolledPlace .1)
 markStands EnrolmentResult = eqb (fixedFor EnrolmentResult .mark) (enrolledPlace .1)
 markStands DebitRequest = eqb (fixedFor DebitRequest .mark) (debitedPlace .1)
 markStands DebitResult = eqb (fixedFor DebitResult .mark) (debitedPlace .1)
+markStands BankEnrolment = eqb (fixedFor BankEnrolment .mark) (enrolledPlace .1)
 
 -- a body begins where item 4 does and ends with the record; items 6 and 7 are given where the header has them
 unfoldable pub bodyStands : Form → Bool
@@ -120,6 +134,7 @@ givenStand EnrolmentRequest = eqb (fixedFor EnrolmentRequest .item6) 0 && eqb (f
 givenStand EnrolmentResult = eqb (fixedFor EnrolmentResult .item6) 0 && eqb (fixedFor EnrolmentResult .item7) 0
 givenStand DebitRequest = eqb (fixedFor DebitRequest .item6) (branchPlace .2) && eqb (fixedFor DebitRequest .item7) (accountPlace .2)
 givenStand DebitResult = eqb (fixedFor DebitResult .item6) (branchPlace .2) && eqb (fixedFor DebitResult .item7) (accountPlace .2)
+givenStand BankEnrolment = eqb (fixedFor BankEnrolment .item6) 0 && eqb (fixedFor BankEnrolment .item7) 0
 
 -- all of them, for one form
 unfoldable pub placesStand : Form → Bool

@@ -3,11 +3,11 @@ use mathlib.Core.List.{List, [], _∷_, _++_}
 use Prim.Native.Nat.{ℕ}
 use Rattle.kinds.specs.declared.of_files.Kind.{Kind}
 use Rattle.kinds.specs.declared.of_files.Form.{Form}
-use Rattle.kinds.specs.declared.of_files.Form.the-variants.{EnrolmentRequest, EnrolmentResult, DebitRequest, DebitResult}
+use Rattle.kinds.specs.declared.of_files.Form.the-variants.{EnrolmentRequest, EnrolmentResult, DebitRequest, DebitResult, BankEnrolment}
 use Rattle.kinds.specs.declared.of_files.Role.{Role}
 use Rattle.kinds.specs.declared.of_files.Role.the-variants.{Header, Data, Trailer}
 use Rattle.tables.specs.declared.row.Row.{Row}
-use Rattle.tables.specs.declared.row.Class.the-variants.{Each, CodeText, Filled, Owner, Institution, KindName, Date, NameDate, Serial, AsHeader, NotLater, Application, NotZero, Failed, FailedOrPart, Least, PassbookForm}
+use Rattle.tables.specs.declared.row.Class.the-variants.{Each, CodeText, Filled, Owner, Institution, KindName, Date, NameDate, Serial, AsHeader, NotLater, Office, NotZero, Failed, FailedOrPart, Least, PassbookForm, OneOf}
 use Rattle.tables.specs.Rows.{row, only, spaces, zeros, digits, free, passbook}
 
 -- codes as numbers; c0000 where breaking the rule is refusal 5
@@ -84,29 +84,34 @@ dataFront =
     row 3 9 10 AsHeader c0000 ∷
     []
 
--- enrolment data, but for item 12
-unfoldable pub enrolmentData : Row → List Row
-enrolmentData result = dataFront ++ (
+-- enrolment data, but for items 10, 12, 13 and 15
+unfoldable pub enrolmentData : Row → Row → Row → Row → List Row
+enrolmentData office result check channel = dataFront ++ (
     row 4 19 6 NotLater cA011 ∷
-    row 5 25 1 Application cA012 ∷
+    row 5 25 1 (OneOf 0x31 0x33 0x37) cA012 ∷
     row 6 26 20 Filled c0098 ∷
     row 7 46 7 digits c0011 ∷
     row 8 53 16 Filled c0098 ∷
     row 9 69 16 Owner c0098 ∷
-    row 10 85 4 spaces c0089 ∷
+    office ∷
     row 11 89 2 CodeText c0098 ∷
     result ∷
-    row 13 96 1 spaces c0089 ∷
+    check ∷
     row 14 97 12 free c0088 ∷
-    row 15 109 1 spaces c0089 ∷
+    channel ∷
     row 16 110 10 spaces c0089 ∷
     [])
 
 unfoldable pub enrolmentRequestData : List Row
-enrolmentRequestData = enrolmentData (row 12 91 5 spaces c0089)
+enrolmentRequestData = enrolmentData (row 10 85 4 spaces c0089) (row 12 91 5 spaces c0089) (row 13 96 1 spaces c0089) (row 15 109 1 spaces c0089)
 
 unfoldable pub enrolmentResultData : List Row
-enrolmentResultData = enrolmentData (row 12 91 5 Failed c0088)
+enrolmentResultData = enrolmentData (row 10 85 4 spaces c0089) (row 12 91 5 Failed c0088) (row 13 96 1 spaces c0089) (row 15 109 1 spaces c0089)
+
+-- enrolment at a bank: the office code; "Y", "N" or a space, whether item 9 is to be checked; the channel, "1" or "4"
+unfoldable pub bankEnrolmentData : List Row
+bankEnrolmentData =
+    enrolmentData (row 10 85 4 Office c0088) (row 12 91 5 spaces c0089) (row 13 96 1 (OneOf 0x59 0x4E 0x20) c0088) (row 15 109 1 (OneOf 0x31 0x34 0x34) c0088)
 
 -- debit data, but for item 8 and what else items 9 and 13 ask
 unfoldable pub debitData : Row → List Row → List Row → List Row
@@ -199,6 +204,9 @@ rowsFor DebitRequest Trailer = debitRequestTrailer
 rowsFor DebitResult Header = debitHeader
 rowsFor DebitResult Data = debitResultData
 rowsFor DebitResult Trailer = debitResultTrailer
+rowsFor BankEnrolment Header = enrolmentHeader
+rowsFor BankEnrolment Data = bankEnrolmentData
+rowsFor BankEnrolment Trailer = enrolmentResultTrailer
 
 abbrev pub rowsOf : Kind → Role → List Row
 rowsOf k role = rowsFor (k .form) role

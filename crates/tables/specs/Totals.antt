@@ -3,7 +3,7 @@ use Prim.Native.Nat.{ℕ}
 use mathlib.Core.List.{List, [], _∷_}
 use Rattle.kinds.specs.declared.of_files.Kind.{Kind}
 use Rattle.kinds.specs.declared.of_files.Form.{Form}
-use Rattle.kinds.specs.declared.of_files.Form.the-variants.{EnrolmentRequest, EnrolmentResult, DebitRequest, DebitResult}
+use Rattle.kinds.specs.declared.of_files.Form.the-variants.{EnrolmentRequest, EnrolmentResult, DebitRequest, DebitResult, BankEnrolment}
 use Rattle.tables.specs.declared.totals.Total.{Total}
 use Rattle.tables.specs.declared.totals.Quantity.{Quantity}
 use Rattle.tables.specs.declared.totals.Quantity.the-variants.{Records, OfKind, Amounts, Marked, AmountsMarked, MarkedByCentre}
@@ -47,6 +47,7 @@ totalsFor EnrolmentRequest = enrolmentTotals
 totalsFor EnrolmentResult = enrolmentTotals
 totalsFor DebitRequest = debitRequestTotals
 totalsFor DebitResult = debitResultTotals
+totalsFor BankEnrolment = enrolmentTotals
 
 abbrev pub totalsOf : Kind → List Total
 totalsOf k = totalsFor (k .form)

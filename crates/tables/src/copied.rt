@@ -63,6 +63,7 @@ pub fn copied_count(kind: Kind) -> usize
         Form::EnrolmentResult => ENROLMENT_COPIED.len(),
         Form::DebitRequest => DEBIT_COPIED.len(),
         Form::DebitResult => DEBIT_COPIED.len(),
+        Form::BankEnrolment => ENROLMENT_COPIED.len(),
     }
 }
 
@@ -77,5 +78,6 @@ pub fn copied_at(kind: Kind, i: usize) -> Copied
         Form::EnrolmentResult => enrolment_copied(i),
         Form::DebitRequest => debit_copied(i),
         Form::DebitResult => debit_copied(i),
+        Form::BankEnrolment => enrolment_copied(i),
     }
 }

@@ -24,8 +24,8 @@ pub enum Class {
     AsHeader,
     // a date, not later than the header's
     NotLater,
-    // "1", "3" or "7"
-    Application,
+    // four digits, "CHNG", "CNCL" or spaces
+    Office,
     // not all "0"
     NotZero,
     // "N" and a table code
@@ -42,6 +42,8 @@ pub enum Class {
     Extension,
     // passbook text in one of its three forms
     PassbookForm,
+    // one of three bytes
+    OneOf(u8, u8, u8),
 }
 
 // Item, start, length, class, code.

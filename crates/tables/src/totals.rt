@@ -81,6 +81,7 @@ pub fn total_count(kind: Kind) -> usize
         Form::EnrolmentResult => ENROLMENT_TOTALS.len(),
         Form::DebitRequest => DEBIT_REQUEST_TOTALS.len(),
         Form::DebitResult => DEBIT_RESULT_TOTALS.len(),
+        Form::BankEnrolment => ENROLMENT_TOTALS.len(),
     }
 }
 
@@ -95,5 +96,6 @@ pub fn total_at(kind: Kind, i: usize) -> Total
         Form::EnrolmentResult => enrolment_total(i),
         Form::DebitRequest => debit_request_total(i),
         Form::DebitResult => debit_result_total(i),
+        Form::BankEnrolment => enrolment_total(i),
     }
 }

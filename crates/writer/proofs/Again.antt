@@ -18,14 +18,14 @@ use Rattle.laws.proofs.Every.{every}
 use Rattle.laws.proofs.Parts.{part-at, same-equal}
 use Rattle.kinds.specs.declared.of_files.Kind.{Kind}
 use Rattle.kinds.specs.declared.of_files.Form.{Form}
-use Rattle.kinds.specs.declared.of_files.Form.the-variants.{EnrolmentRequest, EnrolmentResult, DebitRequest, DebitResult}
+use Rattle.kinds.specs.declared.of_files.Form.the-variants.{EnrolmentRequest, EnrolmentResult, DebitRequest, DebitResult, BankEnrolment}
 use Rattle.kinds.specs.declared.of_files.Own.{Own}
 use Rattle.kinds.specs.declared.of_files.Role.the-variants.{Header, Data, Trailer}
 use Rattle.tables.specs.declared.row.Row.{Row}
 use Rattle.kinds.specs.Kinds.{fixedOf, fixedFor, kind}
 use Rattle.kinds.proofs.Forms.{of-form}
 use Rattle.tables.proofs.Fronts.{fronts, rows-front, front-row, front-some}
-use Rattle.tables.specs.Tables.{headerFront, enrolmentHeader, debitHeader, dataFront, enrolmentData, debitData, enrolmentRequestData, enrolmentResultData, debitRequestData, debitResultData, trailerFront, enrolmentTrailer, enrolmentRequestTrailer, debitRequestTrailer, rowsFor, rowsOf}
+use Rattle.tables.specs.Tables.{headerFront, enrolmentHeader, debitHeader, dataFront, enrolmentData, debitData, enrolmentRequestData, enrolmentResultData, debitRequestData, debitResultData, bankEnrolmentData, trailerFront, enrolmentTrailer, enrolmentRequestTrailer, debitRequestTrailer, rowsFor, rowsOf}
 use Rattle.tables.specs.Totals.{noTotal, enrolmentTotals, debitRequestTotals, totalsOf}
 use Rattle.layout.specs.Items.{dateOf, nameDay}
 use Rattle.layout.specs.Rules.{meets, holds}
@@ -71,6 +71,7 @@ header-rows-in EnrolmentRequest o H b d = header-front (kind EnrolmentRequest o)
 header-rows-in EnrolmentResult o H b d = header-front (kind EnrolmentResult o) H b d _ (only-back H 120 33 87 0x20 also end)
 header-rows-in DebitRequest o H b d = header-front (kind DebitRequest o) H b d _ (given-back H 150 33 7 also given-back H 150 40 16 also only-back H 150 56 94 0x20 also end)
 header-rows-in DebitResult o H b d = header-front (kind DebitResult o) H b d _ (given-back H 150 33 7 also given-back H 150 40 16 also only-back H 150 56 94 0x20 also end)
+header-rows-in BankEnrolment o H b d = header-front (kind BankEnrolment o) H b d _ (only-back H 120 33 87 0x20 also end)
 
 header-rows : (k : Kind) (H : List ℕ) → Bytes H → drop 2 (dateOf H) ≡ nameDay H → All (Back k H H 0 (headerFill k (headFrom k H)) (fixedOf k .size)) (rowsOf k Header)
 header-rows k H b d = header-rows-in (k .form) (k .own) H b d
@@ -108,7 +109,7 @@ module _ (k : Kind) (rec H : List ℕ) (n : ℕ) where
 
 -- all rows past items 1 to 3 begin behind them
 rest-behind : (k : Kind) → every (λ (r : Row). leb 19 (r .1)) (drop (length (fronts Data)) (rowsOf k Data)) ≡ true
-unfolding dataFront enrolmentData debitData enrolmentRequestData enrolmentResultData debitRequestData debitResultData
+unfolding dataFront enrolmentData debitData enrolmentRequestData enrolmentResultData debitRequestData debitResultData bankEnrolmentData
 rest-behind k = of-form (λ f. every (λ (r : Row). leb 19 (r .1)) (drop (length (fronts Data)) (rowsFor f Data))) refl (k .form)
 
 data-rows : (k : Kind) (rec H : List ℕ) (n : ℕ) → All (Back k rec H n (λ r j. frontFill r H n j) 19) (rowsOf k Data)
@@ -180,6 +181,7 @@ trailer-rows-in DebitRequest o w rec H n totals said =
     only-back rec 150 140 10 0x20 also
     end)
 trailer-rows-in DebitResult o w rec H n totals said = absurd (clash refl (sym w))
+trailer-rows-in BankEnrolment o w rec H n totals said = absurd (clash refl (sym w))
 
 trailer-rows :
     (k : Kind) → fixedOf k .written ≡ true → (rec H : List ℕ) (n : ℕ) (totals : List ℕ) → Said k rec totals →

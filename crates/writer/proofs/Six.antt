@@ -13,7 +13,7 @@ use Rattle.laws.proofs.Bools.{either, clash}
 use Rattle.laws.proofs.Sums.{sum-bound}
 use Rattle.kinds.specs.declared.of_files.Kind.{Kind}
 use Rattle.kinds.specs.declared.of_files.Form.{Form}
-use Rattle.kinds.specs.declared.of_files.Form.the-variants.{EnrolmentRequest, EnrolmentResult, DebitRequest, DebitResult}
+use Rattle.kinds.specs.declared.of_files.Form.the-variants.{EnrolmentRequest, EnrolmentResult, DebitRequest, DebitResult, BankEnrolment}
 use Rattle.kinds.specs.declared.of_files.Own.{Own}
 use Rattle.kinds.specs.declared.of_files.Named.{Named}
 use Rattle.kinds.specs.declared.of_files.Named.the-variants.{Is, Unknown}
@@ -202,6 +202,7 @@ module _ (number : ℕ) (h : Head) (bodies : List ℕ) (room : ℕ) where
   six-in EnrolmentResult o e z = absurd (clash refl (sym (request-written number (kind EnrolmentResult o) e)))
   six-in DebitRequest o e z = record { k = kind DebitRequest o; named = e; debit = refl; much = sum-exact o h bodies room .0 z }
   six-in DebitResult o e z = absurd (clash refl (sym (request-written number (kind DebitResult o) e)))
+  six-in BankEnrolment o e z = absurd (clash refl (sym (request-written number (kind BankEnrolment o) e)))
 
   six-named : (n : Named) → requestOf number ≡ n → writeNamed n h bodies room .number ≡ 6 → OnlyDebit number h bodies room
   six-named (Is k) e z = six-in (k .form) (k .own) e z

@@ -19,7 +19,7 @@ use Rattle.laws.proofs.Joins.{Sized, sized-length, joined-length, joined-part, 
 use Rattle.laws.proofs.Parts.{part-length, part-at}
 use Rattle.kinds.specs.declared.of_files.Kind.{Kind}
 use Rattle.kinds.specs.declared.of_files.Form.{Form}
-use Rattle.kinds.specs.declared.of_files.Form.the-variants.{EnrolmentRequest, EnrolmentResult, DebitRequest, DebitResult}
+use Rattle.kinds.specs.declared.of_files.Form.the-variants.{EnrolmentRequest, EnrolmentResult, DebitRequest, DebitResult, BankEnrolment}
 use Rattle.kinds.specs.declared.of_files.Own.{Own}
 use Rattle.kinds.specs.declared.of_files.Role.the-variants.{Header}
 use Rattle.tables.specs.declared.row.Row.{Row}
@@ -88,6 +88,7 @@ code-built k h e = code-in (k .form) (k .own)
     code-in EnrolmentResult o = given-item (kind EnrolmentResult o) h 2 refl (λ g l. refl) (omega arith) e
     code-in DebitRequest o = given-item (kind DebitRequest o) h 2 refl (λ g l. refl) (omega arith) e
     code-in DebitResult o = given-item (kind DebitResult o) h 2 refl (λ g l. refl) (omega arith) e
+    code-in BankEnrolment o = given-item (kind BankEnrolment o) h 2 refl (λ g l. refl) (omega arith) e
 
 date-built : (k : Kind) (h : Head) → length (h .date) ≡ 6 → part 27 6 (headerBuilt k h) ≡ h .date
 unfolding starts endsPast none least further givenItem headerFront enrolmentHeader debitHeader
@@ -98,6 +99,7 @@ date-built k h e = date-in (k .form) (k .own)
     date-in EnrolmentResult o = given-item (kind EnrolmentResult o) h 5 refl (λ g l. refl) (omega arith) e
     date-in DebitRequest o = given-item (kind DebitRequest o) h 5 refl (λ g l. refl) (omega arith) e
     date-in DebitResult o = given-item (kind DebitResult o) h 5 refl (λ g l. refl) (omega arith) e
+    date-in BankEnrolment o = given-item (kind BankEnrolment o) h 5 refl (λ g l. refl) (omega arith) e
 
 nothing : (start : ℕ) (x s : List ℕ) → length x ≡ 0 → part start 0 s ≡ x
 unfolding part
@@ -110,6 +112,7 @@ item6-in EnrolmentRequest o h e = nothing 33 (h .item6) (headerBuilt (kind Enrol
 item6-in EnrolmentResult o h e = nothing 33 (h .item6) (headerBuilt (kind EnrolmentResult o) h) e
 item6-in DebitRequest o h e = given-item (kind DebitRequest o) h 8 refl (λ g l. refl) (omega arith) e
 item6-in DebitResult o h e = given-item (kind DebitResult o) h 8 refl (λ g l. refl) (omega arith) e
+item6-in BankEnrolment o h e = nothing 33 (h .item6) (headerBuilt (kind BankEnrolment o) h) e
 
 item6-built : (k : Kind) (h : Head) → length (h .item6) ≡ fixedOf k .item6 → part 33 (fixedOf k .item6) (headerBuilt k h) ≡ h .item6
 item6-built k h e = item6-in (k .form) (k .own) h e
@@ -120,6 +123,7 @@ item7-in EnrolmentRequest o h e = nothing 40 (h .item7) (headerBuilt (kind Enrol
 item7-in EnrolmentResult o h e = nothing 40 (h .item7) (headerBuilt (kind EnrolmentResult o) h) e
 item7-in DebitRequest o h e = given-item (kind DebitRequest o) h 9 refl (λ g l. refl) (omega arith) e
 item7-in DebitResult o h e = given-item (kind DebitResult o) h 9 refl (λ g l. refl) (omega arith) e
+item7-in BankEnrolment o h e = nothing 40 (h .item7) (headerBuilt (kind BankEnrolment o) h) e
 
 item7-built : (k : Kind) (h : Head) → length (h .item7) ≡ fixedOf k .item7 → part 40 (fixedOf k .item7) (headerBuilt k h) ≡ h .item7
 item7-built k h e = item7-in (k .form) (k .own) h e

@@ -18,7 +18,7 @@ use Rattle.numbers.specs.Numbers.{digitsOf}
 use Rattle.numbers.proofs.Values.{digits-length, says-within}
 use Rattle.kinds.specs.declared.of_files.Kind.{Kind}
 use Rattle.kinds.specs.declared.of_files.Form.{Form}
-use Rattle.kinds.specs.declared.of_files.Form.the-variants.{EnrolmentRequest, EnrolmentResult, DebitRequest, DebitResult}
+use Rattle.kinds.specs.declared.of_files.Form.the-variants.{EnrolmentRequest, EnrolmentResult, DebitRequest, DebitResult, BankEnrolment}
 use Rattle.kinds.specs.declared.of_files.Own.{Own}
 use Rattle.kinds.specs.declared.of_files.Role.the-variants.{Trailer}
 use Rattle.tables.specs.declared.row.Row.{Row}
@@ -92,6 +92,7 @@ totals-stand-in DebitRequest o e H totals (suc zero) h = given-total (kind Debit
 totals-stand-in DebitRequest o e H totals (suc (suc zero)) h = given-total (kind DebitRequest o) H totals 6 refl (λ g t. refl) (omega arith)
 totals-stand-in DebitRequest o e H totals (suc (suc (suc t))) h = absurd (omega arith)
 totals-stand-in DebitResult o e H totals t h = absurd (clash refl (sym e))
+totals-stand-in BankEnrolment o e H totals t h = absurd (clash refl (sym e))
 
 totals-stand :
     (k : Kind) → fixedOf k .written ≡ true → (H totals : List ℕ) (t : ℕ) → t < length (totalsOf k) →

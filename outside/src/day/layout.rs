@@ -25,7 +25,7 @@ pub fn bodies_start(bodies: usize) -> usize {
 }
 
 /// The kinds that go in.
-const KINDS: [Kind; 6] = [Kind::EB13, Kind::EB14, Kind::EB21, Kind::EB22, Kind::EC21, Kind::EC22];
+pub const KINDS: [Kind; 6] = [Kind::EB13, Kind::EB14, Kind::EB21, Kind::EB22, Kind::EC21, Kind::EC22];
 
 /// The kind that a name says; none where it says none that goes in.
 pub fn kind_said(name: &[u8]) -> Option<Kind> {

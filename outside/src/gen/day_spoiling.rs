@@ -4,7 +4,7 @@ use super::day_changed::{
     change_byte, change_count, change_end, change_entries, change_length, swap_entries,
 };
 use super::day_draft::{DayDraft, NamedBody};
-use super::day_good::{day_of, good_day};
+use super::day_good::{day_of, good_day, name_of};
 use super::files::{any_bytes, too_many, unknown_kind};
 use super::items_changed::{change_total, copy_key};
 use super::random::Rng;
@@ -78,6 +78,7 @@ fn spoil_file(rng: &mut Rng, body: &mut NamedBody, spoil: Spoil) {
 /// A body for one of the numbers with which it can be refused.
 fn spoil_for(rng: &mut Rng, body: &mut NamedBody) {
     let spoil: Spoil = match rng.below(9) {
+        0 if rng.once_in(3) => return put_of_a_bank(rng, body),
         0 => return rename_kind(rng, body),
         1 => |rng, kind, file| *file = any_bytes(rng, kind),
         2 => |rng, kind, file| cut(rng, kind.record_length(), file),
@@ -95,6 +96,12 @@ fn spoil_for(rng: &mut Rng, body: &mut NamedBody) {
 /// As many bytes as five digits can say, a few fewer or one more.
 fn too_long(rng: &mut Rng) -> Vec<u8> {
     vec![rng.pick(b" 0H"); rng.pick(&[99_900, 99_960, 99_999, 100_000])]
+}
+
+/// A good EB11 under its own name, which does not go in.
+fn put_of_a_bank(rng: &mut Rng, body: &mut NamedBody) {
+    let draft = good_draft(rng, Kind::EB11);
+    *body = NamedBody { name: name_of(&draft), file: draft.file() };
 }
 
 /// A name of no kind that goes in.

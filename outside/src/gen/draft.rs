@@ -70,7 +70,7 @@ pub(super) fn fill_sum(draft: &mut Draft, wanted: u64) {
     };
     let others: u64 = others.iter().map(|body| body_amount(body)).sum();
     let rest = wanted.saturating_sub(others);
-    if (draft.kind.pair().least_won()..=LARGEST_AMOUNT).contains(&rest) {
+    if (draft.kind.least_won()..=LARGEST_AMOUNT).contains(&rest) {
         set_body_amount(last, rest);
     }
 }

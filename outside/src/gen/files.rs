@@ -8,9 +8,9 @@ use crate::layout::{Kind, MOST_RECORDS};
 
 /// A number that names no file kind.
 pub fn unknown_kind(rng: &mut Rng) -> u32 {
-    let letters: [&[u8; 4]; 18] = [
-        b"EB10", b"EB15", b"EB20", b"EB23", b"eb21", b"EB2 ", b"12BE", b"31BE", b"EA13", b"FB14", b"EC13",
-        b"EC14", b"EC20", b"EC23", b"ec22", b"ED21", b"    ", b"0000",
+    let letters: [&[u8; 4]; 19] = [
+        b"EB10", b"EB12", b"EB15", b"EB20", b"EB23", b"eb21", b"EB2 ", b"12BE", b"31BE", b"EA13", b"FB14",
+        b"EC13", b"EC14", b"EC20", b"EC23", b"ec22", b"ED21", b"    ", b"0000",
     ];
     let number = match rng.below(5) {
         0 => rng.pick(&[0, 1, 2, 3, 13, 14, 21, 22, u32::MAX]),
@@ -44,7 +44,7 @@ pub(super) fn any_bytes(rng: &mut Rng, kind: Kind) -> Vec<u8> {
 pub(super) fn too_many(rng: &mut Rng, kind: Kind) -> Vec<u8> {
     let n = MOST_RECORDS + rng.pick(&[1, 1, 1, 2, 3, 70]);
     let mut file = if rng.once_in(4) {
-        request_of(rng, kind.pair().request(), n).file()
+        request_of(rng, kind.answered(), n).file()
     } else {
         vec![rng.pick(b"0 R"); (n + 2) * kind.record_length()]
     };

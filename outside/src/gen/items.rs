@@ -16,6 +16,9 @@ pub(super) fn good_item(rng: &mut Rng, kind: Kind, latest: &[u8], item: usize) -
             6 => code_text(rng, 1, 20),
             7 => digits(rng, 7),
             8 | 9 => code_text(rng, 1, 16),
+            10 if kind == Kind::EB11 => office(rng),
+            13 if kind == Kind::EB11 => vec![rng.pick(b"YN ")],
+            15 if kind == Kind::EB11 => vec![rng.pick(b"14")],
             11 => code_text(rng, 0, 2),
             12 => good_result(rng, kind),
             14 => free_text(rng, 12),
@@ -24,7 +27,7 @@ pub(super) fn good_item(rng: &mut Rng, kind: Kind, latest: &[u8], item: usize) -
         Family::Debit => match item {
             4 => digits(rng, 7),
             5 => code_text(rng, 1, 16),
-            6 => decimal(rng.between(kind.pair().least_won(), 1_000_000), 13),
+            6 => decimal(rng.between(kind.least_won(), 1_000_000), 13),
             7 => code_text(rng, 0, 13),
             8 => good_result(rng, kind),
             9 if kind.is_request() => passbook_form(rng),
@@ -39,8 +42,18 @@ pub(super) fn good_item(rng: &mut Rng, kind: Kind, latest: &[u8], item: usize) -
     }
 }
 
+/// A good office code of an EB11.
+pub(super) fn office(rng: &mut Rng) -> Vec<u8> {
+    match rng.below(4) {
+        0 => b"CHNG".to_vec(),
+        1 => b"CNCL".to_vec(),
+        2 => spaces(4),
+        _ => digits(rng, 4),
+    }
+}
+
 pub(super) fn good_result(rng: &mut Rng, kind: Kind) -> Vec<u8> {
-    if kind.is_request() {
+    if !kind.is_result() {
         return spaces(5);
     }
     let mut result = vec![b'N'];

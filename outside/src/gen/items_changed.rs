@@ -86,7 +86,7 @@ pub(super) fn change_total(rng: &mut Rng, kind: Kind, file: &mut [u8]) {
         return;
     }
     let last = raw_records(kind, file) - 1;
-    let most = if kind.is_debit() && !kind.is_request() { 12 } else { 9 };
+    let most = if kind.is_debit() && kind.is_result() { 12 } else { 9 };
     let item = rng.between(5, most) as usize;
     let place = item_place(kind, file, last, item);
     let text = other_number(rng, &file[place.clone()]);
@@ -104,7 +104,7 @@ pub(super) fn copy_key(rng: &mut Rng, kind: Kind, file: &mut [u8]) {
     for _ in 0..times {
         let from = 1 + rng.index(count - 2);
         let to = 1 + rng.index(count - 2);
-        for item in kind.pair().key() {
+        for item in kind.key() {
             if !rng.once_in(8) {
                 let target = item_place(kind, file, to, item);
                 file.copy_within(item_place(kind, file, from, item), target.start);
@@ -128,7 +128,7 @@ pub(super) fn overflow_sum(rng: &mut Rng, kind: Kind, file: &mut [u8]) {
         let amount = if exactly {
             5_000_000_000_000
         } else {
-            rng.pick(&[LARGEST_AMOUNT, LARGEST_AMOUNT, 1_000_000, kind.pair().least_won()])
+            rng.pick(&[LARGEST_AMOUNT, LARGEST_AMOUNT, 1_000_000, kind.least_won()])
         };
         file[start..start + 13].copy_from_slice(&decimal(amount, 13));
     }

@@ -6,6 +6,7 @@
 
 mod arrivals;
 mod boards;
+mod changes;
 mod day_changed;
 mod day_draft;
 mod day_files;
@@ -45,6 +46,7 @@ mod writes;
 
 pub use arrivals::{any_arrival_room, any_cutting, any_state, kept_edges, longest_file, past_edges};
 pub use boards::{any_board_post, any_member, board_for, named_payers, BoardInput};
+pub use changes::{any_eb12, any_no, changes_of, unknown_answer, Eb12Input};
 pub use day_draft::{DayDraft, NamedBody};
 pub use day_files::any_day;
 pub use day_good::{day_of, good_day, name_of};

@@ -89,7 +89,7 @@ pub(super) fn text_of_any_class(rng: &mut Rng, old: &[u8]) -> Vec<u8> {
 /// Texts that matter for one item of a data record, now and then.
 fn text_for_item(rng: &mut Rng, kind: Kind, data_item: DataItem) -> Option<Vec<u8>> {
     let DataItem { item, latest } = data_item;
-    if item == kind.pair().result_item() && rng.once_in(2) {
+    if item == kind.result_item() && rng.once_in(2) {
         return Some(some_result(rng));
     }
     let text = match (kind.family(), item) {
@@ -98,8 +98,11 @@ fn text_for_item(rng: &mut Rng, kind: Kind, data_item: DataItem) -> Option<Vec<u
         (Family::Enrolment, 4) if rng.once_in(2) => near_date(rng, latest),
         (Family::Enrolment, 5) if rng.once_in(2) => vec![rng.pick(b"0123456789")],
         (Family::Enrolment, 9) if rng.once_in(3) => spaces(16),
+        (Family::Enrolment, 10) if rng.once_in(2) => near_office(rng),
+        (Family::Enrolment, 13) if rng.once_in(2) => vec![rng.pick(b"YN yn0X")],
+        (Family::Enrolment, 15) if rng.once_in(2) => vec![rng.pick(b"14 0235")],
         (Family::Debit, 6) if rng.once_in(2) => {
-            let least = kind.pair().least_won();
+            let least = kind.least_won();
             let amounts = [0, 0, 0, 1, 139, 140, least - 1, least - 1, least, least + 1, LARGEST_AMOUNT];
             decimal(rng.pick(&amounts), 13)
         }
@@ -108,6 +111,15 @@ fn text_for_item(rng: &mut Rng, kind: Kind, data_item: DataItem) -> Option<Vec<u
         _ => return None,
     };
     Some(text)
+}
+
+/// What an office code may say, or almost.
+fn near_office(rng: &mut Rng) -> Vec<u8> {
+    let list: [&[u8; 4]; 14] = [
+        b"CHNG", b"CNCL", b"0001", b"    ", b"chng", b"CHN ", b" CHN", b"CNCG", b"CHNL", b"12  ", b"123 ",
+        b"12A4", b"CNGL", b"NULL",
+    ];
+    rng.pick(&list).to_vec()
 }
 
 /// The date itself or with one digit one more or less.

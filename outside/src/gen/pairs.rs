@@ -40,7 +40,7 @@ pub(super) fn any_pair_of(rng: &mut Rng, pair: PairKind) -> (u32, Vec<u8>, Vec<u
     }
     let number = match rng.below(100) {
         0 => unknown_kind(rng),
-        1 => rng.pick(&PairKind::ALL).result().number(),
+        1 => rng.pick(&[Kind::EB11, Kind::EB14, Kind::EB22, Kind::EC22]).number(),
         2 => rng.pick(&PairKind::ALL).number(),
         _ => pair.number(),
     };
@@ -80,15 +80,12 @@ fn any_two_files(rng: &mut Rng, pair: PairKind) -> (Vec<u8>, Vec<u8>) {
 
 /// A same-day debit for a next-day one, and the other way round.
 fn of_the_other_day(kind: Kind) -> Kind {
-    let other = match kind.pair() {
-        PairKind::Enrolment => PairKind::Enrolment,
-        PairKind::NextDay => PairKind::SameDay,
-        PairKind::SameDay => PairKind::NextDay,
-    };
-    if kind.is_request() {
-        other.request()
-    } else {
-        other.result()
+    match kind {
+        Kind::EB11 | Kind::EB13 | Kind::EB14 => kind,
+        Kind::EB21 => Kind::EC21,
+        Kind::EB22 => Kind::EC22,
+        Kind::EC21 => Kind::EB21,
+        Kind::EC22 => Kind::EB22,
     }
 }
 
@@ -120,11 +117,11 @@ fn differ_in_record(rng: &mut Rng, request: &Draft, result: &mut Draft) {
     let item = rng.between(4, result.kind.data().len() as u64) as usize;
     let other = rng.pick(&request.bodies);
     match rng.below(8) {
-        0 if item != result.kind.pair().result_item() => {
+        0 if item != result.kind.result_item() => {
             copy_body_item(result.kind, &other, body, item);
         }
         1 => {
-            for item in result.kind.pair().key() {
+            for item in result.kind.key() {
                 copy_body_item(result.kind, &other, body, item);
             }
         }
@@ -144,7 +141,7 @@ fn another_record(rng: &mut Rng, request: &Draft, result: &mut Draft) {
     } else {
         enrolment_body(rng, request.kind, &request.date)
     };
-    let place = body_item(result.kind, result.kind.pair().result_item());
+    let place = body_item(result.kind, result.kind.result_item());
     let marked = good_result(rng, result.kind);
     stranger[place].copy_from_slice(&marked);
     let at = rng.index(result.bodies.len() + 1);

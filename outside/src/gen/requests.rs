@@ -1,19 +1,19 @@
-//! Good request files.
+//! Good request files, and those of banks, EB11, which ask as well.
 
 use super::draft::{fill_sum, Draft, LARGEST_AMOUNT};
 use super::items::{body_item, copy_body_item, good_item};
 use super::random::Rng;
-use super::texts::{code_text, date, decimal, digits, spaces};
-use crate::layout::{Kind, PairKind, MOST_RECORDS};
+use super::texts::{code_text, date, decimal, digits, free_text, spaces};
+use crate::layout::{Kind, MOST_RECORDS};
 use std::collections::HashSet;
 
-/// A good request file.
+/// A good file of what is answered.
 pub fn good_request(rng: &mut Rng, kind: Kind) -> Draft {
     let n = size(rng);
     request_of(rng, kind, n)
 }
 
-/// A good request file of n data records.
+/// The same of n data records.
 pub fn request_of(rng: &mut Rng, kind: Kind, n: usize) -> Draft {
     let debit = kind.is_debit();
     let mut draft = Draft {
@@ -24,7 +24,7 @@ pub fn request_of(rng: &mut Rng, kind: Kind, n: usize) -> Draft {
         item7: if debit { code_text(rng, 1, 16) } else { vec![] },
         bodies: vec![],
         fee: digits(rng, 11),
-        mac: spaces(10),
+        mac: if kind == Kind::EB11 { free_text(rng, 10) } else { spaces(10) },
     };
     let mut keys = HashSet::new();
     while draft.bodies.len() < n {
@@ -61,7 +61,7 @@ pub(super) fn enrolment_body(rng: &mut Rng, kind: Kind, latest: &[u8]) -> Vec<u8
 pub(super) fn debit_body(rng: &mut Rng, kind: Kind, n: usize) -> Vec<u8> {
     let mut items: Vec<Vec<u8>> = (4..=15).map(|item| good_item(rng, kind, b"", item)).collect();
     let debit_type = items[9][0];
-    let (base, least_won) = (base(kind.pair(), debit_type), kind.pair().least_won());
+    let (base, least_won) = (base(kind.least_won(), debit_type), kind.least_won());
     let cap = LARGEST_AMOUNT / n.max(1) as u64;
     let least = if debit_type == b'1' { 1 } else { least_won };
     let amount = match rng.below(20) {
@@ -85,9 +85,9 @@ pub(super) fn debit_body(rng: &mut Rng, kind: Kind, n: usize) -> Vec<u8> {
 }
 
 /// The least that may be taken in part (type "1": never, so any number does).
-pub(super) fn base(pair: PairKind, debit_type: u8) -> u64 {
+pub(super) fn base(least_won: u64, debit_type: u8) -> u64 {
     match debit_type {
-        b'0' => pair.least_won(),
+        b'0' => least_won,
         b'1' => 1,
         other => (u64::from(other) - u64::from(b'1')) * 1_000,
     }
@@ -96,13 +96,13 @@ pub(super) fn base(pair: PairKind, debit_type: u8) -> u64 {
 /// Adds a body, with a key that no other has; now and then a key that shares
 /// half of another.
 fn add_with_new_key(rng: &mut Rng, draft: &mut Draft, keys: &mut HashSet<Vec<u8>>, mut body: Vec<u8>) {
-    let [one, other] = draft.kind.pair().key();
+    let [one, other] = draft.kind.key();
     if !draft.bodies.is_empty() && rng.once_in(3) {
         let neighbour = rng.pick(&draft.bodies);
         let half = rng.pick(&[one, other]);
         copy_body_item(draft.kind, &neighbour, &mut body, half);
     }
-    let [first, second] = draft.kind.pair().key().map(|item| body_item(draft.kind, item));
+    let [first, second] = draft.kind.key().map(|item| body_item(draft.kind, item));
     if !draft.kind.is_debit() && body[first.clone()] != *b"3" {
         // A kind that came from a neighbour may forbid a blank item 9.
         let birth = body_item(draft.kind, 9);
@@ -112,7 +112,7 @@ fn add_with_new_key(rng: &mut Rng, draft: &mut Draft, keys: &mut HashSet<Vec<u8>
     }
     let mut key = [&body[first.clone()], &body[second.clone()]].concat();
     while !keys.insert(key.clone()) {
-        let payer = body_item(draft.kind, draft.kind.pair().key_item());
+        let payer = body_item(draft.kind, draft.kind.key_item());
         body[payer].copy_from_slice(&code_text(rng, 1, 20));
         key = [&body[first.clone()], &body[second.clone()]].concat();
     }

@@ -5,22 +5,22 @@ use super::items::{body_amount, body_item, good_result, set_body_amount};
 use super::random::Rng;
 use super::requests::{base, good_request};
 use super::texts::{free_text, passbook_text};
-use crate::layout::{Kind, PairKind};
+use crate::layout::Kind;
 
 /// A result for a request: some of its records in another order, answered.
 /// A fair one has only possible amounts.
 pub fn result_of(rng: &mut Rng, request: &Draft, fair: bool) -> Draft {
     let mut result = request.clone();
-    result.kind = request.kind.pair().result();
+    result.kind = request.kind.pair().expect("a request has a result").result();
     result.mac = free_text(rng, 10);
     result.bodies = some_of(rng, &request.bodies);
     for body in &mut result.bodies {
-        let place = body_item(result.kind, result.kind.pair().result_item());
+        let place = body_item(result.kind, result.kind.result_item());
         let marked = good_result(rng, result.kind);
         body[place].copy_from_slice(&marked);
         if result.kind.is_debit() {
             let fair = fair || rng.once_in(2);
-            answer_amount(rng, result.kind.pair(), body, fair);
+            answer_amount(rng, result.kind.least_won(), body, fair);
         }
     }
     result
@@ -37,10 +37,10 @@ fn some_of(rng: &mut Rng, list: &[Vec<u8>]) -> Vec<Vec<u8>> {
 }
 
 /// Puts the amount not taken into the body of a debit's result that still has the amount asked.
-fn answer_amount(rng: &mut Rng, pair: PairKind, body: &mut [u8], fair: bool) {
+fn answer_amount(rng: &mut Rng, least_won: u64, body: &mut [u8], fair: bool) {
     let asked = body_amount(body);
     let debit_type = body[97];
-    let base = base(pair, debit_type);
+    let base = base(least_won, debit_type);
     let most = asked.saturating_sub(base);
     if fair {
         if debit_type == b'1' || most == 0 {
@@ -69,7 +69,7 @@ fn answer_amount(rng: &mut Rng, pair: PairKind, body: &mut [u8], fair: bool) {
         7 => base,
         8 => base - 1,
         9 => asked / 2,
-        10 => pair.least_won(),
+        10 => least_won,
         _ => rng.between(1, asked),
     };
     let least = if rng.once_in(10) { 0 } else { 1 };
@@ -78,12 +78,12 @@ fn answer_amount(rng: &mut Rng, pair: PairKind, body: &mut [u8], fair: bool) {
 
 /// A good file of any kind; a result file is made from a request.
 pub fn good_draft(rng: &mut Rng, kind: Kind) -> Draft {
-    let request = good_request(rng, kind.pair().request());
-    if kind.is_request() {
-        request
-    } else {
+    let request = good_request(rng, kind.answered());
+    if kind.is_result() {
         let result = result_of(rng, &request, false);
         by_itself(rng, result)
+    } else {
+        request
     }
 }
 

@@ -67,7 +67,7 @@ pub fn any_write(rng: &mut Rng) -> WriteInput {
     let number = match rng.below(100) {
         0 => unknown_kind(rng),
         1 => rng.pick(&Kind::ALL).number(),
-        2 => kind.pair().result().number(),
+        2 => rng.pick(&[Kind::EB11, Kind::EB14, Kind::EB22, Kind::EC22]).number(),
         _ => kind.number(),
     };
     WriteInput {
@@ -105,7 +105,7 @@ fn copy_body_key(rng: &mut Rng, draft: &mut Draft) {
     }
     let from = rng.pick(&draft.bodies);
     let to = rng.index(draft.bodies.len());
-    for item in draft.kind.pair().key() {
+    for item in draft.kind.key() {
         if !rng.once_in(8) {
             copy_body_item(draft.kind, &from, &mut draft.bodies[to], item);
         }

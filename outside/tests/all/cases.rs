@@ -114,6 +114,16 @@ pub fn enrolment(kind: &str, payer: &str, result: &str) -> Vec<u8> {
     items.concat()
 }
 
+/// An enrolment of an EB11 by its kind and its payer: no office code, no check item, channel 1.
+pub fn enrolment_by_bank(kind: &str, payer: &str) -> Vec<u8> {
+    let mut body = enrolment(kind, payer, "");
+    put(&mut body, CHANNEL_IN_BODY, b"1");
+    body
+}
+
+/// Item 15 of an enrolment without its items 1 to 3.
+const CHANNEL_IN_BODY: usize = 90;
+
 /// A debit of 10,000 won, type 0, by its payer and, in an EB22 or EC22, its result.
 pub fn debit(payer: &str, result: &str) -> Vec<u8> {
     let items = [
@@ -136,8 +146,9 @@ pub fn file_of(name: &str, records: u64) -> Vec<u8> {
     let (letters, day) = name.split_at(4);
     let kind = Kind::ALL.into_iter().find(|kind| kind.letters() == letters.as_bytes());
     let kind = kind.unwrap_or_else(|| panic!("no kind: {name}"));
-    let result = if kind.is_request() { "" } else { "N0021" };
+    let result = if kind.is_result() { "N0021" } else { "" };
     let body = |payer: String| match kind.family() {
+        _ if kind == Kind::EB11 => enrolment_by_bank("1", &payer),
         Family::Enrolment => enrolment("1", &payer, result),
         Family::Debit => debit(&payer, result),
     };

@@ -2,7 +2,7 @@
 
 use outside::bridge::{Breach, Said};
 use outside::coverage::Counter;
-use outside::day::layout::{kind_said, MOST_BODIES};
+use outside::day::layout::{kind_said, KINDS, MOST_BODIES};
 use outside::evidence::layout::Profile;
 use outside::gen::{self, DayDraft, EvidenceDraft, NamedBody, Rng};
 use outside::layout::{Kind, MOST_RECORDS};
@@ -146,8 +146,8 @@ pub fn keep(name: &str, bytes: &[u8]) -> PathBuf {
 /// A good file of n data records.
 pub fn good_file(rng: &mut Rng, kind: Kind, n: usize) -> Vec<u8> {
     loop {
-        let request = gen::request_of(rng, kind.pair().request(), n);
-        if kind.is_request() {
+        let request = gen::request_of(rng, kind.answered(), n);
+        if !kind.is_result() {
             return request.file();
         }
         let result = gen::result_of(rng, &request, true);
@@ -167,9 +167,9 @@ pub fn named(mut file: Vec<u8>, day: &str) -> NamedBody {
     NamedBody { name: file[19..27].to_vec(), file }
 }
 
-/// A good day file of all kinds, of one day and with so many data records each.
+/// A good day file of all kinds that go in, of one day and with so many data records each.
 pub fn all_kinds(rng: &mut Rng, n: usize) -> DayDraft {
-    let bodies = Kind::ALL.map(|kind| named(good_file(rng, kind, n), "1231"));
+    let bodies = KINDS.map(|kind| named(good_file(rng, kind, n), "1231"));
     DayDraft { bodies: bodies.to_vec() }
 }
 

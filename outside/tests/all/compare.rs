@@ -127,6 +127,9 @@ const ENROLMENT_KIND: usize = 25;
 const ENROLMENT_PAYER: usize = 26;
 const ENROLMENT_BIRTH: usize = 69;
 const ENROLMENT_RESULT: usize = 91;
+const OFFICE: usize = 85;
+const CHECK: usize = 96;
+const CHANNEL: usize = 109;
 const DEBIT_AMOUNT: usize = 42;
 const DEBIT_RESULT: usize = 68;
 const DEBIT_PAYER: usize = 91;
@@ -262,10 +265,7 @@ fn every_number_of_records_with_a_repeated_key() {
             let earlier = rng.between(1, n as u64 - 1) as usize;
             file.copy_within(earlier * length..(earlier + 1) * length, n * length);
             mend(kind, &mut file);
-            assert_eq!(
-                compare(&mut both, kind.number(), &file),
-                Answer::placed(7, n, kind.pair().key_item())
-            );
+            assert_eq!(compare(&mut both, kind.number(), &file), Answer::placed(7, n, kind.key_item()));
         }
     }
 }
@@ -302,11 +302,39 @@ fn every_header_date() {
 #[test]
 fn every_enrolment_date() {
     let (mut both, mut rng) = (both(), Rng::new(settings::seed()));
-    for kind in [Kind::EB13, Kind::EB14] {
+    for kind in [Kind::EB11, Kind::EB13, Kind::EB14] {
         let mut file = good_file(&mut rng, kind, 1);
         for date in 0..1_000_000 {
             put(&mut file, kind.record_length() + ENROLMENT_DATE, format!("{date:06}").as_bytes());
             compare(&mut both, kind.number(), &file);
+        }
+    }
+}
+
+/// Every office code of some letters, among them those of both words, and every byte of check item and channel.
+#[test]
+fn every_office_check_and_channel() {
+    let (mut both, mut rng) = (both(), Rng::new(settings::seed()));
+    let letters = b"CHNGLc019 \x7f\x1fA@/:";
+    for kind in [Kind::EB11, Kind::EB13, Kind::EB14] {
+        let by_bank = kind == Kind::EB11;
+        let good = good_file(&mut rng, kind, 1);
+        let mut file = good.clone();
+        let mut accepted = 0;
+        for code in 0..16_usize.pow(4) {
+            let office = [12, 8, 4, 0].map(|shift| letters[code >> shift & 15]);
+            put(&mut file, kind.record_length() + OFFICE, &office);
+            accepted += u64::from(compare(&mut both, kind.number(), &file).is_accepted());
+        }
+        // Two words, spaces, and four of three digits.
+        assert_eq!(accepted, if by_bank { 3 + 81 } else { 1 }, "{kind:?}");
+        for (place, taken) in [(CHECK, b"YN "), (CHANNEL, b"144")] {
+            let mut file = good.clone();
+            for byte in 0..=255 {
+                file[kind.record_length() + place] = byte;
+                let is_taken = if by_bank { taken.contains(&byte) } else { byte == b' ' };
+                assert_eq!(compare(&mut both, kind.number(), &file).is_accepted(), is_taken);
+            }
         }
     }
 }

@@ -203,7 +203,7 @@ fn unknown() -> [u32; 6] {
     [
         0,
         u32::from_be_bytes(*b"eb21"),
-        u32::from_be_bytes(*b"EB11"),
+        u32::from_be_bytes(*b"EB12"),
         u32::from_be_bytes(*b"12BE"),
         1,
         u32::MAX,

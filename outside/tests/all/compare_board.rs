@@ -720,7 +720,7 @@ fn every_kind_of_file() {
 /// Every kind, and numbers that name none.
 fn numbers(rng: &mut Rng) -> Vec<u32> {
     let mut numbers = Kind::ALL.map(Kind::number).to_vec();
-    numbers.extend([*b"EI13", *b"EB11", *b"eb21", *b"12BE", *b"12CE", *b"    "].map(u32::from_be_bytes));
+    numbers.extend([*b"EI13", *b"EB12", *b"eb21", *b"12BE", *b"12CE", *b"    "].map(u32::from_be_bytes));
     numbers.extend([0, 1, 21, u32::MAX, gen::unknown_kind(rng)]);
     numbers
 }

@@ -246,7 +246,7 @@ fn request_of(rng: &mut Rng, kinds: PairKind, n: usize, asks: impl Fn(usize) -> 
 
 /// A result for some of these requests: which (from 0), its result item, and in debit the won not taken.
 fn result_of(request: &Draft, answers: &[(usize, &[u8; 5], u64)]) -> Draft {
-    let kinds = request.kind.pair();
+    let kinds = request.kind.pair().expect("a pair");
     let mut result = request.clone();
     result.kind = kinds.result();
     result.bodies.clear();
@@ -340,7 +340,7 @@ fn every_order_of_results() {
 
 /// The pair by both, and what the rules say of answers that are all possible.
 fn meet(both: &mut Both, request: &Draft, all: &Draft, answers: &[(usize, &[u8; 5], u64)]) -> Answer {
-    let kinds = request.kind.pair();
+    let kinds = request.kind.pair().expect("a pair");
     let n = request.bodies.len();
     let result = result_of(all, answers).file();
     let (told, taken, not_taken) = paired(both, kinds, &request.file(), &result);
@@ -456,7 +456,7 @@ fn debit_told(
     mark: &[u8; 5],
     u: u64,
 ) -> Answer {
-    let kinds = request.kind.pair();
+    let kinds = request.kind.pair().expect("a pair");
     let result = result_of(request, &[(0, mark, u)]).file();
     let (told, taken, not_taken) = paired(both, kinds, &request.file(), &result);
     compare(both, kinds.number(), &request.file(), &result, Asked::Outcome(1));

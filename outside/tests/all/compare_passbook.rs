@@ -147,7 +147,7 @@ fn every_text_is_written() {
 
 /// A request of one record and the "N" for it, each with this text.
 fn asked_and_answered(request: &Draft, asked: &Text, answered: &Text) -> [Vec<u8>; 2] {
-    let kinds = request.kind.pair();
+    let kinds = request.kind.pair().expect("a pair");
     let mut result = Draft { kind: kinds.result(), ..request.clone() };
     put(&mut result.bodies[0], gen::body_item(kinds.result(), 8).start, b"N0021");
     let mut request = request.clone();

@@ -6,8 +6,8 @@ use super::common::{held_to_a_list, names_differ, proved_day_shown, refused_in, 
 use outside::bridge::{ask, Breach, Call, Said};
 use outside::coverage::{Counter, Operation};
 use outside::coverage_day::{DayEntry, DayOperation, Told};
+use outside::day::layout::KINDS;
 use outside::gen::DayWriteInput;
-use outside::layout::Kind;
 use outside::proved::DayParts;
 use outside::{day_body, day_read, day_write, eight_of_day, ten_of_body, Answer, DayAnswer};
 
@@ -115,7 +115,7 @@ fn note(counter: &mut [Counter<DayEntry>; 3], case: &Case) {
 fn the_list_has_every_answer() {
     let mut counters = [DayOperation::Read, DayOperation::Body, DayOperation::Write].map(Counter::of_day);
     cases().for_each(|case| note(&mut counters, &case));
-    for kind in Kind::ALL {
+    for kind in KINDS {
         let read_as =
             |told: Told| matches!(told, Told::Inner(own) if own.operation == Operation::Read(Some(kind)));
         let reached = counters[0].rarest().into_iter().filter(|(_, times)| *times > 0);

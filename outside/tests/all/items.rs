@@ -186,7 +186,10 @@ fn in_words(class: &[String], size: u64, least: &str) -> String {
         ["LongDate"] => "a full date",
         ["Extension"] => "an extension of the kind",
         ["NotLater"] => "a real date, not later than the header's",
-        ["Application"] => "\"1\" new, \"3\" cancelled or \"7\" cancelled at will",
+        ["OneOf", "0x31", "0x33", "0x37"] => "\"1\" new, \"3\" cancelled or \"7\" cancelled at will",
+        ["OneOf", "0x59", "0x4E", "0x20"] => "\"Y\", \"N\" or a space",
+        ["OneOf", "0x31", "0x34", "0x34"] => "\"1\" or \"4\"",
+        ["Office"] => "four digits, \"CHNG\", \"CNCL\" or four spaces",
         ["NotZero"] => "not zero",
         ["Failed"] => "\"N\" and a table code",
         ["FailedOrPart"] => "\"N\" and a table code, or \"P\" and a table code or four spaces",
@@ -567,7 +570,7 @@ fn rules(row: &[&str], kind: &str, kinds: &[&str]) -> Vec<Rule> {
     found
 }
 
-const TEXTS: [&str; 8] = [
+const TEXTS: [&str; 9] = [
     "How to look a refusal up",
     "How to look a refusal of evidence up",
     "The words of the rules",
@@ -576,12 +579,14 @@ const TEXTS: [&str; 8] = [
     KINDS_TITLE,
     AGREEING_TITLE,
     DAY_TITLE,
+    ANSWER_TITLE,
 ];
 pub const FORMS_TITLE: &str = "The three forms of passbook text";
 const BLOCKS_TITLE: &str = "EI13: profiles and blocks";
 const KINDS_TITLE: &str = "EI13: kinds of evidence";
 const AGREEING_TITLE: &str = "EI13 beside EB13";
 pub const DAY_TITLE: &str = "Day files";
+const ANSWER_TITLE: &str = "EB12 beside EB11";
 const ITEM_ROW: &str = "| Item | Bytes | Name | Rules, each with what is told when it is broken |";
 
 /// The rules of every record, as docs/ITEMS.md has them.
@@ -688,9 +693,9 @@ fn lists(text: &str) -> Vec<(String, Vec<String>)> {
     found
 }
 
-/// The lists that docs/CODES.md must have: the banks', the centre's, and the codes of all rules.
-fn code_lists(codes: &str, records: &Records) -> Vec<(String, Vec<String>)> {
-    let codes = Definitions::of(codes);
+/// The lists that docs/CODES.md must have: the banks', the centre's, ours, and the codes of all rules.
+fn code_lists(codes: &str, answers: &str, records: &Records) -> Vec<(String, Vec<String>)> {
+    let [codes, answers] = [codes, answers].map(Definitions::of);
     assert_eq!(codes.only("tableCodes").1, ["bankCodes", "++", "centreCodes"], "who sets codes");
     let all = records.values().flatten().map(|rule| rule.told.clone());
     let is_code = |told: &String| !told.starts_with("refusal ") && told != NOTHING;
@@ -698,6 +703,7 @@ fn code_lists(codes: &str, records: &Records) -> Vec<(String, Vec<String>)> {
     vec![
         ("Set by banks".to_string(), codes.codes("bankCodes")),
         ("Set by the centre".to_string(), codes.codes("centreCodes")),
+        ("Set by us".to_string(), answers.codes("ourCodes")),
         ("Told by this library of a file".to_string(), told.into_iter().collect()),
     ]
 }
@@ -705,6 +711,8 @@ fn code_lists(codes: &str, records: &Records) -> Vec<(String, Vec<String>)> {
 const TABLES: &str = "crates/tables/specs/Tables.antt";
 const TOTALS: &str = "crates/tables/specs/Totals.antt";
 const KINDS: &str = "crates/kinds/specs/Kinds.antt";
+const CODES: &str = "crates/tables/specs/Codes.antt";
+const ANSWERS: &str = "crates/changes/specs/Answers.antt";
 
 const EVIDENCE_ROWS: &str = "crates/evidence_rows/specs/Tables.antt";
 const EVIDENCE_KINDS: &str = "crates/evidence_kinds/specs/Evidence.antt";
@@ -736,7 +744,7 @@ pub fn changed(text: &str, from: &str, to: &str) -> String {
 fn every_item_is_documented_as_it_is() {
     let library = library_as_it_is();
     let found: usize = library.values().map(Vec::len).sum();
-    assert!(library.len() >= 24 && found >= 338, "only {} records with {found} rules", library.len());
+    assert!(library.len() >= 27 && found >= 378, "only {} records with {found} rules", library.len());
     assert_eq!(differences(&library, &documented(&text("docs/ITEMS.md"))), Vec::<String>::new());
 }
 
@@ -756,8 +764,9 @@ fn evidence_is_documented_as_it_is() {
 
 #[test]
 fn every_code_is_documented_with_who_sets_it() {
-    let lists_there = code_lists(&text("crates/tables/specs/Codes.antt"), &library_as_it_is());
+    let lists_there = code_lists(&text(CODES), &text(ANSWERS), &library_as_it_is());
     assert_eq!(lists_there[0].1.len() + lists_there[1].1.len(), 48);
+    assert_eq!(lists_there[2].1, ["A013", "A016", "A017", "A019"]);
     assert_eq!(lists_there, lists(&text("docs/CODES.md")));
 }
 
@@ -779,9 +788,9 @@ fn a_wrong_item_is_seen() {
     );
     assert_eq!(seen(type_row, &type_row.replace("0075", "0088")).len(), 4);
     assert_eq!(seen(type_row, &type_row.replace("| 13 |", "| 14 |")).len(), 4);
-    let filler = "| 13 | 97 | filler (FILLER) | only spaces (0089) |\n";
-    assert_eq!(seen(filler, "").len(), 2);
-    assert_eq!(seen(filler, &filler.repeat(2)).len(), 2);
+    let filler = "| 16 | 111 to 120 | filler (FILLER) | only spaces (0089) |\n";
+    assert_eq!(seen(filler, "").len(), 3);
+    assert_eq!(seen(filler, &filler.repeat(2)).len(), 3);
     // a rule of one kind alone or of two, a rule's words, refusals 5 and 6, a rule too many, the order of rules
     assert_eq!(seen("EB21: an amount of at least", "an amount of at least").len(), 3);
     assert_eq!(seen("EC21: an amount of at least", "an amount of at least").len(), 3);
@@ -800,6 +809,16 @@ fn a_wrong_item_is_seen() {
     assert_eq!(seen(" with a code of the centre (refusal 6)", " (refusal 6)").len(), 2);
     assert_eq!(seen("only digits (0088); not zero (0061)", "only digits (0088)").len(), 4);
     assert_eq!(seen("only digits (0088); not zero (0061)", "not zero (0061); only digits (0088)").len(), 4);
+    // enrolments of banks
+    assert_eq!(
+        seen("four digits, \"CHNG\", \"CNCL\" or four spaces (0088)", "only spaces (0089)").len(),
+        1
+    );
+    assert_eq!(seen("\"CNCL\" or four spaces (0088)", "\"CNCL\" or four spaces (0089)").len(), 1);
+    assert_eq!(seen("\"Y\", \"N\" or a space (0088)", "\"Y\" or \"N\" (0088)").len(), 1);
+    assert_eq!(seen("\"1\" or \"4\" (0088)", "\"1\" or \"5\" (0088)").len(), 1);
+    let mac = "EB11 and EB14: free text (0088)";
+    assert_eq!(seen(mac, "EB11: only spaces (0089); EB14: free text (0088)").len(), 1);
     // a whole record: of another kind, or of one kind fewer
     assert_eq!(seen("## EB22 and EC22: trailer", "## EB23 and EC22: trailer").len(), 2);
     assert_eq!(seen("## EB22 and EC22: trailer", "## EB22: trailer").len(), 1);
@@ -825,9 +844,14 @@ fn a_changed_table_is_seen() {
     assert_eq!(seen(TABLES, "row 6 42 13 NotZero c0061 ∷", ""), 4);
     assert_eq!(seen(TABLES, "row 15 129 21 spaces c0089", "row 15 129 21 free c0089"), 4);
     assert_eq!(seen(TABLES, "row 15 129 21 spaces c0089", "row 15 129 21 spaces c0090"), 4);
-    assert_eq!(seen(TABLES, "row 5 27 6 NameDate c0000", "row 5 27 6 NameDate c0088"), 6);
+    assert_eq!(seen(TABLES, "row 5 27 6 NameDate c0000", "row 5 27 6 NameDate c0088"), 7);
     assert_eq!(seen(TABLES, "c0075 = 0x30303735", "c0075 = 0x30303736"), 4);
     assert_eq!(seen(TABLES, "row 9 73 16 PassbookForm c0087 ∷", ""), 2);
+    assert_eq!(seen(TABLES, "row 10 85 4 Office c0088", "row 10 85 4 spaces c0089"), 1);
+    assert_eq!(seen(TABLES, "row 10 85 4 Office c0088", "row 10 85 4 Office c0089"), 1);
+    assert_eq!(seen(TABLES, "(OneOf 0x59 0x4E 0x20) c0088", "spaces c0089"), 1);
+    assert_eq!(seen(TABLES, "(OneOf 0x31 0x34 0x34) c0088", "(OneOf 0x31 0x34 0x34) c0075"), 1);
+    assert_eq!(seen(TABLES, "(OneOf 0x31 0x33 0x37)", "(OneOf 0x31 0x34 0x34)"), 3);
     assert_eq!(seen(TABLES, "row 9 73 16 PassbookForm c0087", "row 9 73 16 PassbookForm c0068"), 2);
     assert_eq!(
         seen(TABLES, "FailedOrPart c0088) []", "FailedOrPart c0088) (row 9 73 16 PassbookForm c0087 ∷ [])"),
@@ -842,7 +866,7 @@ fn a_changed_table_is_seen() {
         2
     );
     assert_eq!(seen(TOTALS, "total 7 43 13 Amounts ∷", ""), 2);
-    assert_eq!(seen(TOTALS, "(OfKind 0x37)", "(OfKind 0x38)"), 2);
+    assert_eq!(seen(TOTALS, "(OfKind 0x37)", "(OfKind 0x38)"), 3);
     assert_eq!(seen(TOTALS, "(MarkedByCentre 0x4E)", "(MarkedByCentre 0x50)"), 2);
     assert_eq!(seen(TOTALS, "(MarkedByCentre 0x4E)", "(Marked 0x4E)"), 2);
     assert_eq!(seen(TOTALS, "total 10 77 8 (MarkedByCentre 0x4E) ∷", ""), 2);
@@ -861,17 +885,24 @@ fn a_changed_table_is_seen() {
 fn a_changed_kind_is_seen() {
     assert_eq!(seen(KINDS, "own 0x45423231 140", "own 0x45423231 139"), 1);
     assert_eq!(seen(KINDS, "own 0x45433231 300", "own 0x45433231 140"), 1);
+    assert_eq!(seen(KINDS, "own 0x45423131 0", "own 0x45423132 0"), 6);
     // Its data records and its trailer would be those of a result.
     assert_eq!(seen(KINDS, "EC21 = kind DebitRequest", "EC21 = kind DebitResult"), 2);
-    let enrolment = |request: &str, result: &str| {
-        format!("EB13 = kind {request} ownEB13\n\nabbrev pub EB14 : Kind\nEB14 = kind {result} ownEB14\n")
+    let two = |[one, other]: [&str; 2], [form, another]: [&str; 2]| {
+        format!(
+            "{one} = kind {form} own{one}\n\nabbrev pub {other} : Kind\n{other} = kind {another} own{other}\n"
+        )
     };
-    let forms = ["EnrolmentRequest", "EnrolmentResult"];
-    assert_eq!(seen(KINDS, &enrolment(forms[0], forms[1]), &enrolment(forms[1], forms[0])), 4);
+    let [of_bank, request, result] = ["BankEnrolment", "EnrolmentRequest", "EnrolmentResult"];
+    for (kinds, [one, other]) in
+        [(["EB13", "EB14"], [request, result]), (["EB11", "EB13"], [of_bank, request])]
+    {
+        assert_eq!(seen(KINDS, &two(kinds, [one, other]), &two(kinds, [other, one])), 4);
+    }
     assert_eq!(seen(KINDS, "own 0x45423232", "own 0x45423233"), 6);
     assert_eq!(seen(KINDS, "own 0x45433232", "own 0x45433233"), 6);
     let library = library_with(KINDS, |kinds| {
-        changed(&kinds, "kinds = EB13 ∷", "kinds = ED21 ∷ EB13 ∷") + &new_kind("DebitRequest")
+        changed(&kinds, "kinds = EB11 ∷", "kinds = ED21 ∷ EB11 ∷") + &new_kind("DebitRequest")
     });
     let found = differences(&library, &documented(&text("docs/ITEMS.md")));
     assert!(found.len() == 3 && found.iter().all(|line| line.starts_with("ED21 ")), "{found:?}");
@@ -934,13 +965,16 @@ fn a_changed_count_of_evidence_is_noticed() {
 
 #[test]
 fn a_wrong_code_is_seen() {
-    let (records, codes) = (library_as_it_is(), text("crates/tables/specs/Codes.antt"));
-    let (there, page) = (code_lists(&codes, &records), text("docs/CODES.md"));
+    let [codes, answers] = [CODES, ANSWERS].map(text);
+    let records = library_as_it_is();
+    let (there, page) = (code_lists(&codes, &answers, &records), text("docs/CODES.md"));
     let row = page.lines().find(|line| line.starts_with("| 0096 |")).expect("a row of 0096");
     assert_ne!(there, lists(&changed(&page, &format!("{row}\n"), "")));
     assert_ne!(there, lists(&changed(&page, "| 0096 |", "| 0097 |")));
     assert_ne!(there, lists(&changed(&page, "## Set by the centre", "## Set by nobody")));
-    assert_ne!(code_lists(&changed(&codes, "0x30303936", "0x30303937"), &records), lists(&page));
+    assert_ne!(code_lists(&changed(&codes, "0x30303936", "0x30303937"), &answers, &records), lists(&page));
+    let ours = changed(&answers, "0x41303139", "0x41303138");
+    assert_ne!(code_lists(&codes, &ours, &records), lists(&page));
 }
 
 #[test]

@@ -332,12 +332,12 @@ fn the_layout_papers_starts() {
     let trailer21 = vec![0, 1, 9, 19, 27, 35, 43, 56, 64, 77, 140];
     let trailer22 = vec![0, 1, 9, 19, 27, 35, 43, 56, 64, 77, 85, 89, 100, 111, 140];
     for kind in Kind::ALL {
-        let enrolment = [Kind::EB13, Kind::EB14].contains(&kind);
+        let enrolment = [Kind::EB11, Kind::EB13, Kind::EB14].contains(&kind);
         let header = if enrolment { vec![0, 1, 9, 19, 27, 33] } else { vec![0, 1, 9, 19, 27, 33, 40, 56] };
         assert_eq!(starts(kind.header()), header);
         assert_eq!(&starts(kind.data()), if enrolment { &data1 } else { &data2 });
         let trailer = match kind {
-            Kind::EB13 | Kind::EB14 => &trailer1,
+            Kind::EB11 | Kind::EB13 | Kind::EB14 => &trailer1,
             Kind::EB21 | Kind::EC21 => &trailer21,
             Kind::EB22 | Kind::EC22 => &trailer22,
         };
@@ -835,7 +835,7 @@ fn a29_kinds_of_the_writer() {
 fn a30_a31_a32_a33_answers() {
     assert_eq!(read(0, b""), answer(0, 1, 0, 0, "0000"));
     assert_eq!(read(EB21.swap_bytes(), b""), answer(0, 1, 0, 0, "0000"));
-    assert_eq!(read(number("EB11"), &sample("EB13")), answer(0, 1, 0, 0, "0000"));
+    assert_eq!(read(number("EB12"), &sample("EB13")), answer(0, 1, 0, 0, "0000"));
     assert_eq!(read(EB21, &vec![0; 433 * 150]), answer(0, 3, 0, 0, "0000"));
     assert_eq!(read(EB21, &vec![0; 433 * 150 + 1]), answer(0, 2, 0, 0, "0000"));
     assert_eq!(read(EB21, &vec![0; 432 * 150]), answer(0, 4, 0, 1, "0081"));
@@ -1617,8 +1617,9 @@ struct Run {
 #[test]
 fn generated_inputs() {
     let (seed, count) = (settings::seed(), settings::count(100_000));
-    let counter =
-        Counter::of(|one| !one.is_of_evidence() && !one.is_of_arrival() && !one.is_of_the_board());
+    let counter = Counter::of(|one| {
+        !one.is_of_evidence() && !one.is_of_arrival() && !one.is_of_the_board() && !one.is_of_changes()
+    });
     let mut run = Run { rng: Rng::new(seed), counter, seen: Seen::default() };
     for input in 0..count {
         match input % 5 {
@@ -1766,7 +1767,7 @@ impl Run {
     /// An accepted file with another count or sum is refused, with 6.
     fn check_changed_totals(&mut self, kind: Kind, file: &[u8]) {
         let places: &[(usize, usize)] = match kind {
-            Kind::EB13 | Kind::EB14 => &[(27, 8), (35, 8), (51, 8), (59, 8)],
+            Kind::EB11 | Kind::EB13 | Kind::EB14 => &[(27, 8), (35, 8), (51, 8), (59, 8)],
             Kind::EB21 | Kind::EC21 => &[(27, 8), (35, 8), (43, 13)],
             Kind::EB22 | Kind::EC22 => &[(27, 8), (35, 8), (43, 13), (56, 8), (64, 13), (77, 8)],
         };

@@ -90,8 +90,8 @@ fn q6c_nothing_is_announced_before_the_end() {
             assert_eq!(arrival.part(part), 10);
         }
     }
-    assert_eq!(told("EB11", &[&sample("EB21")], LONGEST), alone(1));
-    assert_eq!(told("EB11", &[], 0), alone(1));
+    assert_eq!(told("EB12", &[&sample("EB21")], LONGEST), alone(1));
+    assert_eq!(told("EB12", &[], 0), alone(1));
 }
 
 #[test]
@@ -112,7 +112,7 @@ fn q6e_after_the_end() {
     for (kind, parts, room, first) in [
         ("EB21", good.len(), LONGEST, accepted()),
         ("EB22", good.len(), LONGEST, answer(0, 5, 0, 4, "0000")),
-        ("EB11", good.len(), LONGEST, alone(1)),
+        ("EB12", good.len(), LONGEST, alone(1)),
         ("EB21", good.len() - 1, LONGEST, alone(2)),
         ("EB21", good.len(), good.len() - 1, alone(8)),
         ("EB21", 0, 0, alone(2)),
@@ -125,7 +125,7 @@ fn q6e_after_the_end() {
             for part in [&b""[..], &good[parts..], &good] {
                 assert_eq!(arrival.part(part), 9);
             }
-            for kind in ["EB21", "EB13", "EB11"] {
+            for kind in ["EB21", "EB13", "EB12"] {
                 assert_eq!(arrival.end(number(kind)), alone(9));
             }
             assert_eq!((arrival.state(), arrival.room()), (state, left.clone()));
@@ -142,7 +142,7 @@ fn q6f_a_short_room() {
         for room in [0, 1, good.len() - 1] {
             assert_eq!(told(kind, &[&good], room), alone(8));
             assert_eq!(told(kind, &[&broken], room), alone(8));
-            assert_eq!(told("EB11", &[&good], room), alone(1));
+            assert_eq!(told("EB12", &[&good], room), alone(1));
             assert_eq!(told(kind, &[&good, b" "], room), alone(2));
             assert_eq!(told(kind, &[&many(kind, 431)], room), alone(3));
             let arrival = arriving(&[&good], room);

@@ -319,7 +319,8 @@ fn the_generator_makes_every_form() {
             }
         }
         assert!(texts.iter().all(|text| SHAPES.iter().any(|shape| fits(shape, text))));
-        let results = (0..500).flat_map(|_| gen::good_draft(&mut rng, kind.pair().result()).bodies);
+        let answering = kind.pair().expect("a pair").result();
+        let results = (0..500).flat_map(|_| gen::good_draft(&mut rng, answering).bodies);
         let other = results.filter(|body| !passbook_form(&item_9(body))).count();
         assert!(other > 100, "{other}");
     }

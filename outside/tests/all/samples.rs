@@ -3,9 +3,10 @@
 use super::passbook::{fits, Text, IN_RECORD, SHAPES};
 use outside::chars::spaces;
 use outside::layout::{is_centre_code, Kind};
+use outside::model::code_number;
 use outside::{
     day_body, day_read, eight_of_day, eight_of_part, evidence_compare, evidence_part, evidence_read, gen,
-    pair, proved, read, ten_of_body, EvidencePart,
+    pair, proved, read, six, ten_of_body, write_eb12, EvidencePart,
 };
 use std::ffi::OsString;
 use std::path::{Path, PathBuf};
@@ -15,7 +16,7 @@ use std::process::Command;
 struct Sample {
     name: String,
     files: Files,
-    /// The kind or pair; of consent evidence the profile, and of a day file nothing.
+    /// The kind or pair; of consent evidence the profile, and of a day file or an EB11 that is answered nothing.
     number: u32,
     expected: String,
 }
@@ -28,11 +29,34 @@ enum Files {
     /// Enrolments, and the evidence for them.
     Consent(Vec<u8>, Vec<u8>),
     Day(Vec<u8>),
+    Answered(AnsweredFiles),
+}
+
+/// An EB11, the words that it is answered with, and the EB12 where it is not refused.
+struct AnsweredFiles {
+    eb11: Vec<u8>,
+    answers: String,
+    eb12: Option<Vec<u8>>,
+}
+
+impl AnsweredFiles {
+    fn words(&self) -> Vec<&str> {
+        self.answers.split_whitespace().collect()
+    }
+
+    /// The answers as numbers.
+    fn numbers(&self) -> Vec<u64> {
+        let code = |word: &str| code_number(word.as_bytes().try_into().expect("a code of four bytes"));
+        self.words().iter().map(|word| if *word == "yes" { 0 } else { code(word) }).collect()
+    }
 }
 
 impl Files {
     fn all(&self) -> Vec<&[u8]> {
         match self {
+            Files::Answered(AnsweredFiles { eb11, answers, eb12 }) => {
+                [eb11, answers.as_bytes()].into_iter().chain(eb12.as_deref()).collect()
+            }
             Files::One(file) | Files::Evidence(file) | Files::Day(file) => vec![file],
             Files::Pair(one, other) | Files::Consent(one, other) => vec![one, other],
         }
@@ -81,6 +105,11 @@ fn sample(text: &Path) -> Sample {
         Some(_) if is_there("file") => Files::Evidence(bytes("file")),
         Some(_) => Files::Consent(bytes("enrolments"), bytes("evidence")),
         None if word == "DAY" => Files::Day(bytes("file")),
+        None if is_there("eb11") => Files::Answered(AnsweredFiles {
+            eb11: bytes("eb11"),
+            answers: String::from_utf8(bytes("answers")).expect("words"),
+            eb12: is_there("eb12").then(|| bytes("eb12")),
+        }),
         None if is_there("file") => Files::One(bytes("file")),
         None => Files::Pair(bytes("request"), bytes("result")),
     };
@@ -162,6 +191,19 @@ fn parts(told: &[u64], accepted: bool, part: impl Fn(u64) -> Vec<u64>) -> Vec<(u
     parts
 }
 
+/// The line of an EB11 that is answered, where the room holds what it must: the EB12 and what is behind it as it was, or all.
+fn answered_line(told: [u64; 6], room: &[u8], eb12: Option<&[u8]>) -> String {
+    let [five @ .., length] = told;
+    let (written, behind) = room.split_at(length as usize);
+    assert_eq!(written, eb12.unwrap_or(b""), "the EB12");
+    assert!(behind.iter().all(|byte| *byte == b'?'), "bytes behind it");
+    if five[1] == 0 {
+        format!("accepted {length}")
+    } else {
+        refused(&five)
+    }
+}
+
 /// What the reference and the library say.
 fn said(sample: &Sample) -> [String; 2] {
     match &sample.files {
@@ -191,6 +233,14 @@ fn said(sample: &Sample) -> [String; 2] {
                 day_line(file, eight_of_day(&answer, bodies), ours),
                 day_line(file, proved::day_read(file), theirs),
             ]
+        }
+        Files::Answered(files) => {
+            let answers = files.numbers();
+            let [mut room, mut other] = [(); 2].map(|()| vec![b'?'; files.eb11.len() + 7]);
+            let (told, length) = write_eb12(&files.eb11, &answers, &mut room);
+            let theirs = proved::write_eb12(&files.eb11, &answers, &mut other);
+            let eb12 = files.eb12.as_deref();
+            [answered_line(six(&told, length), &room, eb12), answered_line(theirs, &other, eb12)]
         }
         Files::Consent(enrolments, evidence) => {
             let profile = sample.number;
@@ -242,7 +292,7 @@ fn the_samples_are_many_enough() {
         samples.iter().any(|sample| match sample.files {
             Files::One(..) => !pair && test(sample),
             Files::Pair(..) => pair && test(sample),
-            Files::Evidence(..) | Files::Consent(..) | Files::Day(..) => false,
+            Files::Evidence(..) | Files::Consent(..) | Files::Day(..) | Files::Answered(..) => false,
         })
     };
     for kind in Kind::ALL {
@@ -279,8 +329,8 @@ fn the_samples_are_many_enough() {
         let line = format!("refused {told} 0000");
         assert!(any(true, &|s| s.expected == line), "no pair is told {line}");
     }
-    // Item 9 of both requests; and where next-day and same-day debits part: the kind, the least amount, the base, and which
-    // files meet.
+    // Item 9 of both requests; where next-day and same-day debits part: the kind, the least amount, the base, and which files
+    // meet; and what an EB11 has of its own.
     for (pair, kind, told) in [
         (false, Kind::EB21, "4 1 9 0068"),
         (false, Kind::EB21, "4 1 9 0087"),
@@ -290,6 +340,14 @@ fn the_samples_are_many_enough() {
         (false, Kind::EB21, "5 0 4 0000"),
         (false, Kind::EB22, "6 4 10 0000"),
         (false, Kind::EC22, "6 4 10 0000"),
+        (false, Kind::EB11, "2 0 0 0000"),
+        (false, Kind::EB11, "4 1 10 0088"),
+        (false, Kind::EB11, "4 1 12 0089"),
+        (false, Kind::EB11, "4 1 13 0088"),
+        (false, Kind::EB11, "4 2 15 0088"),
+        (false, Kind::EB11, "4 2 11 0088"),
+        (false, Kind::EB11, "5 0 4 0000"),
+        (false, Kind::EB13, "5 0 4 0000"),
         (true, Kind::EC21, "14 1 6 0000"),
     ] {
         let of_kind = |s: &Sample| s.number == kind.number() && s.expected == format!("refused 0 {told}");
@@ -312,7 +370,7 @@ fn the_samples_of_evidence_are_many_enough() {
         let of = |files: &Files| match files {
             Files::Evidence(..) => !compared,
             Files::Consent(..) => compared,
-            Files::One(..) | Files::Pair(..) | Files::Day(..) => false,
+            Files::One(..) | Files::Pair(..) | Files::Day(..) | Files::Answered(..) => false,
         };
         let found =
             samples.iter().any(|s| of(&s.files) && s.number == profile && s.expected.starts_with(start));
@@ -335,6 +393,26 @@ fn the_samples_of_evidence_are_many_enough() {
     }
 }
 
+/// The same of an EB11 that is answered: every number of its own, and an EB12 of as many records.
+#[test]
+fn the_samples_of_changes_are_many_enough() {
+    let samples = samples();
+    let answered = || samples.iter().filter(|sample| matches!(sample.files, Files::Answered(_)));
+    for told in ["50 1 10", "50 3 10", "51 0 0", "52 1 10"] {
+        let line = format!("refused 0 {told} 0000");
+        assert!(answered().any(|sample| sample.expected == line), "no EB11 is told {line}");
+    }
+    assert!(answered().any(|sample| sample.expected == "refused 0 4 2 15 0088"));
+    for length in [240, 480, 600] {
+        let line = format!("accepted {length}");
+        assert!(answered().any(|sample| sample.expected == line), "no EB12 of {length} bytes");
+    }
+    for sample in answered() {
+        let Files::Answered(AnsweredFiles { eb12, .. }) = &sample.files else { continue };
+        assert_eq!(eb12.is_some(), sample.expected.starts_with("accepted"), "{}", sample.name);
+    }
+}
+
 /// The same of day files: every number, and 33 with every number of a body of few records.
 #[test]
 fn the_samples_of_days_are_many_enough() {
@@ -347,6 +425,7 @@ fn the_samples_of_days_are_many_enough() {
         "refused 32 3 ",
         "refused 33 4 0 6 4 10 ",
         "refused 33 2 0 4 2 9 0087",
+        "refused 33 2 0 1 0 0 ",
     ] {
         assert!(days().any(|sample| sample.expected.starts_with(told)), "no day file is told {told}");
     }
@@ -511,6 +590,10 @@ fn words(sample: &Sample) -> Option<Vec<OsString>> {
             Some(of(std::str::from_utf8(&kind).expect("letters"), "file").to_vec())
         }
         Files::Evidence(_) if sample.number == ORDINARY => Some(of("EI13", "file").to_vec()),
+        Files::Answered(ref files) => {
+            let answers = files.words().into_iter().map(OsString::from);
+            Some(of("ANSWER", "eb11").into_iter().chain(answers).collect())
+        }
         Files::Day(_) => Some(of("DAY", "file").to_vec()),
         Files::Consent(..) if sample.number == ORDINARY => {
             Some([of("EB13", "enrolments"), of("EI13", "evidence")].concat())
@@ -544,13 +627,21 @@ fn printed_board(sample: &Sample) -> String {
     format!("accepted\n{members}{dates}\n")
 }
 
+/// What the example prints of an EB11 that is answered: the records of the EB12.
+fn printed_eb12(eb12: &[u8]) -> String {
+    let lines = eb12.chunks(120).map(|record| String::from_utf8_lossy(record).into_owned() + "\n");
+    "accepted\n".to_string() + &lines.collect::<String>()
+}
+
 /// What the example prints: the line, and each evidence or body on a line of its own with its number.
 fn printed(sample: &Sample) -> String {
     if !sample.expected.starts_with("accepted") {
         return format!("{}\n", sample.expected);
     }
-    if matches!(sample.files, Files::Pair(..)) {
-        return printed_board(sample);
+    match &sample.files {
+        Files::Pair(..) => return printed_board(sample),
+        Files::Answered(AnsweredFiles { eb12, .. }) => return printed_eb12(eb12.as_deref().unwrap_or(b"")),
+        _ => {}
     }
     let parts = sample.expected.split(' ').enumerate().skip(1);
     let lines = parts.map(|(record, part)| format!("{record} {}\n", part.replace(['@', '+'], " ")));

@@ -1,7 +1,7 @@
 //! How much stack the library needs: every function of the C face, called on a painted stack with the largest inputs,
 //! good ones and ones whose fault is found last, touches no more than include/cms.h says.
 
-use super::{stack_arrival, stack_board, stack_day, stack_evidence};
+use super::{stack_arrival, stack_board, stack_changes, stack_day, stack_evidence};
 use crate::common::put;
 use outside::bridge::{ask, Call};
 use outside::gen::{self, Draft, Rng};
@@ -41,7 +41,7 @@ pub(super) fn files(kind: Kind, draft: &Draft) -> Vec<(&'static str, u64, Vec<u8
         file
     };
     let last = good.len() - 2 * size;
-    let counts_centre = kind.is_debit() && !kind.is_request();
+    let counts_centre = kind.is_debit() && kind.is_result();
     let total = good.len() - size + if counts_centre { 84 } else { 34 };
     vec![
         ("the last item is broken", 4, with(&|file| *file.last_mut().expect("a file") = 0x1f)),
@@ -219,6 +219,10 @@ fn all_cases() -> Vec<Case> {
         cases.extend(of_two_files(pair, &request, &result));
         cases.extend(stack_board::all_cases(pair, &request, &result));
     }
+    let of_bank = gen::request_of(&mut rng, Kind::EB11, MOST_RECORDS);
+    cases.extend(of_one_file(Kind::EB11, &of_bank));
+    cases.extend(stack_arrival::all_cases(Kind::EB11, &of_bank));
+    cases.extend(stack_changes::all_cases(&mut rng));
     cases.extend(stack_evidence::all_cases(&mut rng));
     cases.extend(stack_day::all_cases(&mut rng));
     cases

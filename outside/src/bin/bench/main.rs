@@ -5,6 +5,8 @@ mod arrivals;
 #[cfg(target_arch = "x86_64")]
 mod boards;
 #[cfg(target_arch = "x86_64")]
+mod changes;
+#[cfg(target_arch = "x86_64")]
 mod measures;
 #[cfg(target_arch = "x86_64")]
 mod passbook;
@@ -15,6 +17,7 @@ fn main() {
         measures::print();
         arrivals::print();
         boards::print();
+        changes::print();
         passbook::print();
     }
     #[cfg(not(target_arch = "x86_64"))]

@@ -89,7 +89,7 @@ pub fn request_of(rng: &mut Rng, kind: Kind, n: usize) -> Draft {
         body[start..start + text.len()].copy_from_slice(text);
     };
     for (before, body) in draft.bodies.iter_mut().enumerate() {
-        put(body, kind.pair().key_item(), format!("{:<20}", 2_024_000_001 + before).as_bytes());
+        put(body, kind.key_item(), format!("{:<20}", 2_024_000_001 + before).as_bytes());
         match kind.family() {
             Family::Enrolment => {
                 put(body, 5, b"1");
@@ -142,10 +142,9 @@ fn writing(rng: &mut Rng, n: usize) -> [f64; 3] {
 /// Every so many of the requests answered with "N" and a code, the last of them first.
 pub fn refused(request: &Draft, one_in: usize, told: &[u8; 5]) -> Draft {
     let mut result = request.clone();
-    let pair = request.kind.pair();
-    result.kind = pair.result();
+    result.kind = request.kind.pair().expect("a request has a result").result();
     result.bodies = request.bodies.iter().rev().step_by(one_in).cloned().collect();
-    let place = gen::body_item(result.kind, pair.result_item());
+    let place = gen::body_item(result.kind, result.kind.result_item());
     result.bodies.iter_mut().for_each(|body| body[place.clone()].copy_from_slice(told));
     result
 }
@@ -258,7 +257,7 @@ fn writing_a_day(rng: &mut Rng, n: usize) -> [f64; 3] {
 }
 
 /// FNV-1a: every byte once, one after another.
-fn checksum(file: &[u8]) -> u64 {
+pub fn checksum(file: &[u8]) -> u64 {
     let step = |sum: u64, byte: &u8| (sum ^ u64::from(*byte)).wrapping_mul(0x0100_0000_01b3);
     file.iter().fold(0xcbf2_9ce4_8422_2325, step)
 }

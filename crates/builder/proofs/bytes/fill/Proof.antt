@@ -64,6 +64,9 @@ enum-told-18 c = search needs
 enum-told-19 : tie.Need-enum-told-19
 enum-told-19 c = search needs
 
+enum-told-20 : tie.Need-enum-told-20
+enum-told-20 c = search needs
+
 returns : tie.Need-returns
 returns c = rw (c .before .before .class .given .1, eq-eqb _ _ (c .if1 .taken))
 
@@ -127,6 +130,9 @@ returns-20 c = rw (c .enum-told18 .given .1)
 returns-21 : tie.Need-returns-21
 returns-21 c = rw (c .enum-told19 .given .1)
 
+returns-22 : tie.Need-returns-22
+returns-22 c = rw (c .enum-told20 .given .1)
+
 pub fill-spec : {M : Type 1} → statement M
 fill-spec =
     tie.close
@@ -151,6 +157,7 @@ fill-spec =
     enum-told-17
     enum-told-18
     enum-told-19
+    enum-told-20
     returns
     returns-2
     returns-3
@@ -171,4 +178,5 @@ fill-spec =
     returns-18
     returns-19
     returns-20
-    returns-21)
+    returns-21
+    returns-22)

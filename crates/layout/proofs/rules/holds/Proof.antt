@@ -95,8 +95,8 @@ not-later-requires c κs = search needs
 enum-told-11 : tie.Need-enum-told-11
 enum-told-11 c = search needs
 
-application-requires : tie.Need-application-requires
-application-requires c κs = search needs
+office-requires : tie.Need-office-requires
+office-requires c κs = search needs
 
 enum-told-12 : tie.Need-enum-told-12
 enum-told-12 c = search needs
@@ -158,6 +158,12 @@ enum-told-18 c = search needs
 passbook-form-requires : tie.Need-passbook-form-requires
 passbook-form-requires c κs = search needs
 
+enum-known-class-3 : tie.Need-enum-known-class-3
+enum-known-class-3 c = search needs
+
+one-of-requires : tie.Need-one-of-requires
+one-of-requires c κs = search needs
+
 returns : tie.Need-returns
 unfolding holds meets
 returns c = rw (c .before .before .class .given .1, ← c .before .before .before .before .part .ensures .0) (c .each .ensures)
@@ -204,7 +210,7 @@ returns-11 c = rw (c .before .before .enum-told10 .given .1, ← c .before .befo
 
 returns-12 : tie.Need-returns-12
 unfolding holds meets
-returns-12 c = rw (c .before .enum-told11 .given .1, ← c .before .before .before .part .ensures .0) (c .application .ensures)
+returns-12 c = rw (c .before .enum-told11 .given .1, ← c .before .before .before .part .ensures .0) (c .office .ensures)
 
 returns-13 : tie.Need-returns-13
 unfolding holds meets zeros
@@ -242,6 +248,10 @@ returns-21 : tie.Need-returns-21
 unfolding holds meets
 returns-21 c = rw (c .before .enum-told18 .given .1, ← c .before .before .before .part .ensures .0) (c .passbook-form .ensures)
 
+returns-22 : tie.Need-returns-22
+unfolding holds meets
+returns-22 c = rw (c .before .before .class3 .given .1, ← c .before .before .before .before .part .ensures .0) (c .one-of .ensures)
+
 pub holds-spec : {M : Type 1} → statement M
 holds-spec =
     tie.close
@@ -276,7 +286,7 @@ holds-spec =
     part-requires-4
     not-later-requires
     enum-told-11
-    application-requires
+    office-requires
     enum-told-12
     each-requires-2
     enum-told-13
@@ -297,6 +307,8 @@ holds-spec =
     extension-requires
     enum-told-18
     passbook-form-requires
+    enum-known-class-3
+    one-of-requires
     returns
     returns-2
     returns-3
@@ -317,4 +329,5 @@ holds-spec =
     returns-18
     returns-19
     returns-20
-    returns-21)
+    returns-21
+    returns-22)

@@ -28,6 +28,12 @@ enum-told-4 c = search needs
 debit-copied-requires-2 : tie.Need-debit-copied-requires-2
 debit-copied-requires-2 c κs = rw (c .enum-told4 .given .1, debit-count) at (c .before .before .pre)
 
+enum-told-5 : tie.Need-enum-told-5
+enum-told-5 c = search needs
+
+enrolment-copied-requires-3 : tie.Need-enrolment-copied-requires-3
+enrolment-copied-requires-3 c κs = rw (c .enum-told5 .given .1, enrolment-count) at (c .before .before .pre)
+
 returns : tie.Need-returns
 returns c = rw (c .before .enum-told .given .1) (c .enrolment-copied .ensures)
 
@@ -39,6 +45,9 @@ returns-3 c = rw (c .before .enum-told3 .given .1) (c .debit-copied .ensures)
 
 returns-4 : tie.Need-returns-4
 returns-4 c = rw (c .before .enum-told4 .given .1) (c .debit-copied2 .ensures)
+
+returns-5 : tie.Need-returns-5
+returns-5 c = rw (c .before .enum-told5 .given .1) (c .enrolment-copied3 .ensures)
 
 pub copied-at-spec : {M : Type 1} → statement M
 copied-at-spec =
@@ -52,7 +61,10 @@ copied-at-spec =
     debit-copied-requires
     enum-told-4
     debit-copied-requires-2
+    enum-told-5
+    enrolment-copied-requires-3
     returns
     returns-2
     returns-3
-    returns-4)
+    returns-4
+    returns-5)

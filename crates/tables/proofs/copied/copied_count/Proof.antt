@@ -17,6 +17,9 @@ enum-told-3 c = search needs
 enum-told-4 : tie.Need-enum-told-4
 enum-told-4 c = search needs
 
+enum-told-5 : tie.Need-enum-told-5
+enum-told-5 c = search needs
+
 returns : tie.Need-returns
 returns c = rw (c .enum-told .given .1) (sym enrolment-count)
 
@@ -29,7 +32,10 @@ returns-3 c = rw (c .enum-told3 .given .1) (sym debit-count)
 returns-4 : tie.Need-returns-4
 returns-4 c = rw (c .enum-told4 .given .1) (sym debit-count)
 
+returns-5 : tie.Need-returns-5
+returns-5 c = rw (c .enum-told5 .given .1) (sym enrolment-count)
+
 pub copied-count-spec : {M : Type 1} → statement M
 copied-count-spec =
     tie.close
-    (tie.spec enum-told enum-told-2 enum-told-3 enum-told-4 returns returns-2 returns-3 returns-4)
+    (tie.spec enum-told enum-told-2 enum-told-3 enum-told-4 enum-told-5 returns returns-2 returns-3 returns-4 returns-5)

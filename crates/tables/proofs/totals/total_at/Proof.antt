@@ -32,6 +32,13 @@ debit-result-total-requires : tie.Need-debit-result-total-requires
 unfolding debitResultTotals
 debit-result-total-requires c κs = rw (c .enum-told4 .given .1) at (c .before .before .pre)
 
+enum-told-5 : tie.Need-enum-told-5
+enum-told-5 c = search needs
+
+enrolment-total-requires-3 : tie.Need-enrolment-total-requires-3
+unfolding enrolmentTotals
+enrolment-total-requires-3 c κs = rw (c .enum-told5 .given .1) at (c .before .before .pre)
+
 returns : tie.Need-returns
 returns c = rw (c .before .enum-told .given .1) (c .enrolment-total .ensures)
 
@@ -43,6 +50,9 @@ returns-3 c = rw (c .before .enum-told3 .given .1) (c .debit-request-total .ensu
 
 returns-4 : tie.Need-returns-4
 returns-4 c = rw (c .before .enum-told4 .given .1) (c .debit-result-total .ensures)
+
+returns-5 : tie.Need-returns-5
+returns-5 c = rw (c .before .enum-told5 .given .1) (c .enrolment-total3 .ensures)
 
 pub total-at-spec : {M : Type 1} → statement M
 total-at-spec =
@@ -56,7 +66,10 @@ total-at-spec =
     debit-request-total-requires
     enum-told-4
     debit-result-total-requires
+    enum-told-5
+    enrolment-total-requires-3
     returns
     returns-2
     returns-3
-    returns-4)
+    returns-4
+    returns-5)

@@ -16,6 +16,9 @@ enum-told-3 c = search needs
 enum-told-4 : tie.Need-enum-told-4
 enum-told-4 c = search needs
 
+enum-told-5 : tie.Need-enum-told-5
+enum-told-5 c = search needs
+
 returns : tie.Need-returns
 unfolding enrolmentTotals
 returns c = rw (c .enum-told .given .1)
@@ -32,7 +35,11 @@ returns-4 : tie.Need-returns-4
 unfolding debitResultTotals
 returns-4 c = rw (c .enum-told4 .given .1)
 
+returns-5 : tie.Need-returns-5
+unfolding enrolmentTotals
+returns-5 c = rw (c .enum-told5 .given .1)
+
 pub total-count-spec : {M : Type 1} → statement M
 total-count-spec =
     tie.close
-    (tie.spec enum-told enum-told-2 enum-told-3 enum-told-4 returns returns-2 returns-3 returns-4)
+    (tie.spec enum-told enum-told-2 enum-told-3 enum-told-4 enum-told-5 returns returns-2 returns-3 returns-4 returns-5)

@@ -27,6 +27,12 @@ enum-told-4 c = search needs
 debit-requires-2 : tie.Need-debit-requires-2
 debit-requires-2 c κs = search needs
 
+enum-told-5 : tie.Need-enum-told-5
+enum-told-5 c = search needs
+
+enrolment-requires-3 : tie.Need-enrolment-requires-3
+enrolment-requires-3 c κs = search needs
+
 returns : tie.Need-returns
 returns c = rw (c .before .enum-told .given .1) (c .enrolment .ensures)
 
@@ -38,6 +44,9 @@ returns-3 c = rw (c .before .enum-told3 .given .1) (c .debit .ensures)
 
 returns-4 : tie.Need-returns-4
 returns-4 c = rw (c .before .enum-told4 .given .1) (c .debit2 .ensures)
+
+returns-5 : tie.Need-returns-5
+returns-5 c = rw (c .before .enum-told5 .given .1) (c .enrolment3 .ensures)
 
 pub of-spec : {M : Type 1} → statement M
 of-spec =
@@ -51,7 +60,10 @@ of-spec =
     debit-requires
     enum-told-4
     debit-requires-2
+    enum-told-5
+    enrolment-requires-3
     returns
     returns-2
     returns-3
-    returns-4)
+    returns-4
+    returns-5)

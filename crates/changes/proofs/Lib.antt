@@ -1,0 +1,4 @@
+-- Laws about the definitions of specs/.
+pub mod Found
+pub mod Told
+pub mod Exact
