@@ -69,8 +69,9 @@ extern "C" {
  * letter, a digit or a space. Before, any bytes hex 20 or above did, so files written before may be refused now. EB22 and
  * EC22 are held to no form, as before. No function changed its parameters. 8: cms_board_post and struct cms_member came, and
  * no other function changed. 9: the kind EB11 came, for cms_read, cms_walk and cms_end; before, it was 1, as it still is
- * everywhere else. And cms_write_eb12 came. No function changed its parameters. */
-#define CMS_FACE 9
+ * everywhere else. And cms_write_eb12 came. No function changed its parameters. 10: cms_two_results came, and no other
+ * function changed. */
+#define CMS_FACE 10
 
 #define CMS_EB11 UINT32_C(0x45423131)
 #define CMS_EB13 UINT32_C(0x45423133)
@@ -122,6 +123,20 @@ uint64_t cms_pair(uint32_t pair, const uint8_t *request, size_t request_length, 
  *   answer[9] maker      who set that code: 0 nobody, because it is blank; 1 a bank; 2 the centre */
 uint64_t cms_outcome(uint32_t pair, const uint8_t *request, size_t request_length, const uint8_t *result,
                      size_t result_length, uint64_t record, uint64_t answer[10]);
+
+/* Compares two results of one debit request (CMS_EB21 or CMS_EC21), of which the centre may have sent the second on demand.
+ * It answers as cms_pair of the request and the first result with lists that are long enough; where that pair is accepted,
+ * as cms_pair of the request and the second result; enrolment is 1, as every pair that is unknown. The side of either
+ * result is 2. After the five:
+ *   answer[5] which    1 when the pair with the first result is refused, and for number 1; 2 when the one with the second
+ *                      result is; 0 when both are accepted
+ *   answer[6] request  the first one, 1 to n, of which another amount was taken, or not taken, by the second result than by
+ *                      the first; 0 when there is none, or when refused
+ * When all seven numbers but the code are 0, both hold the same results in some order: they differ in nothing but order and
+ * serials, failure codes, trailer items 10 and 12, and the MAC. And where two accepted results of a pair so differ, the
+ * amounts are the same. */
+uint64_t cms_two_results(uint32_t pair, const uint8_t *request, size_t request_length, const uint8_t *first,
+                         size_t first_length, const uint8_t *second, size_t second_length, uint64_t answer[7]);
 
 /* Data record after data record of one file: record place + 1, or the end when the place is n or more. On a file that
  * is not accepted it answers as cms_read, whatever the place. After the five:

@@ -21,7 +21,7 @@
 
 enum { READ, WRITE, PAIR, OUTCOME, WALK, POST, APART, TOUCH, DIG, PAINTED,
        EVIDENCE_READ, EVIDENCE_PART, EVIDENCE_WRITE, EVIDENCE_COMPARE,
-       DAY_READ, DAY_BODY, DAY_WRITE, PART, END, ARRIVE, BOARD_POST, WRITE_EB12 };
+       DAY_READ, DAY_BODY, DAY_WRITE, PART, END, ARRIVE, BOARD_POST, WRITE_EB12, TWO_RESULTS };
 
 #define THERE UINT64_C(0x636d735f66616365)
 
@@ -227,6 +227,7 @@ static uint64_t call_board_post(void) {
     return cms_board_post(kind, BYTES(0), BYTES(1), MEMBERS(2), lent[3].start, NUMBERS(4));
 }
 static uint64_t call_write_eb12(void) { return cms_write_eb12(BYTES(0), LIST(1), BYTES(2), NUMBERS(3)); }
+static uint64_t call_two_results(void) { return cms_two_results(kind, BYTES(0), BYTES(1), BYTES(2), NUMBERS(3)); }
 
 /* A whole arrival with nothing lent anew on the way: parts of the file as long as the list says, each with what it returned
  * and the state behind it, and then the end. */
@@ -258,7 +259,7 @@ static uint64_t call_dig(void) {
 
 /* The first parameter is a kind, pair or profile. */
 static int is_by_kind(uint64_t which) {
-    if (which == END || which == ARRIVE || which == BOARD_POST) return 1;
+    if (which == END || which == ARRIVE || which == BOARD_POST || which == TWO_RESULTS) return 1;
     return which != POST && which != TOUCH && which != DIG && which < DAY_READ;
 }
 
@@ -296,6 +297,7 @@ static function prepared(uint64_t which) {
         return call_arrive;
     case BOARD_POST: slice(); slice(); board(); to_write(slice()); an_answer(5); return call_board_post;
     case WRITE_EB12: slice(); slice(); to_write(slice()); an_answer(6); return call_write_eb12;
+    case TWO_RESULTS: slice(); slice(); slice(); an_answer(7); return call_two_results;
     case TOUCH: slice(); given = number(); also = number(); return call_touch;
     case DIG: given = number(); return call_dig;
     default: fail("the bridge was asked for a function that it does not know\n"); return NULL;

@@ -6,7 +6,9 @@
  * Posts a debit pair on a board of members, each a payer and the won owed, and prints the members as they are then, and the
  * dates last posted: example BOARD EB21 FILE FILE 2024000001 30000 2024000002 500
  * Answers an EB11, with yes or a code for each of its records, and prints the EB12, a line for each of its records:
- * example ANSWER FILE yes A016 */
+ * example ANSWER FILE yes A016
+ * Compares two results of a debit request, and prints whether they tell the same of it, or else which request is the first
+ * that they differ in, or which of them is refused: example TWO EB21 FILE FILE FILE */
 #include "cms.h"
 #include <inttypes.h>
 #include <stdio.h>
@@ -24,7 +26,7 @@ struct file {
     uint8_t bytes[4098 * 1024 + 1];
 };
 
-static struct file one, other;
+static struct file one, other, third;
 
 static int take(const char *path, struct file *file) {
     FILE *opened = fopen(path, "rb");
@@ -35,16 +37,21 @@ static int take(const char *path, struct file *file) {
     return whole;
 }
 
+/* A refusal, whose code stands behind so many numbers. */
+static void print_refused(const uint64_t *answer, int before_code) {
+    printf("refused");
+    for (int i = 0; i < before_code; i++) printf(" %" PRIu64, answer[i]);
+    putchar(' ');
+    for (int shift = 24; shift >= 0; shift -= 8) putchar((int)(answer[before_code] >> shift & 255));
+}
+
 /* What is told: a number, and an answer whose code stands behind so many others. */
 static int print(uint64_t number, const uint64_t *answer, int before_code) {
     if (number == 0) {
         puts("accepted");
         return 0;
     }
-    printf("refused");
-    for (int i = 0; i < before_code; i++) printf(" %" PRIu64, answer[i]);
-    putchar(' ');
-    for (int shift = 24; shift >= 0; shift -= 8) putchar((int)(answer[before_code] >> shift & 255));
+    print_refused(answer, before_code);
     putchar('\n');
     return 1;
 }
@@ -142,6 +149,21 @@ static int answer_records(char **words, size_t count) {
     return refused;
 }
 
+static int compare_results(const char *letters) {
+    uint64_t answer[7];
+    cms_two_results(kind_of(letters), one.bytes, one.length, other.bytes, other.length, third.bytes, third.length, answer);
+    if (answer[1] != 0) {
+        print_refused(answer, 4);
+        puts(answer[5] == 1 ? " first" : " second");
+        return 1;
+    }
+    if (answer[6] == 0)
+        puts("accepted same");
+    else
+        printf("accepted differ %" PRIu64 "\n", answer[6]);
+    return 0;
+}
+
 int main(int count, char **words) {
     if (count == 3 && strcmp(words[1], "DAY") == 0 && take(words[2], &one)) return read_day();
     if (count == 4 && strcmp(words[1], "PARTS") == 0 && strlen(words[2]) == 4 && take(words[3], &one))
@@ -157,9 +179,13 @@ int main(int count, char **words) {
     if (count >= 3 && count <= 3 + ANSWERS && strcmp(words[1], "ANSWER") == 0 && are_answers(words + 3, count - 3) &&
         take(words[2], &one))
         return answer_records(words + 3, (size_t)(count - 3));
+    if (count == 6 && strcmp(words[1], "TWO") == 0 && strlen(words[2]) == 4 && take(words[3], &one) &&
+        take(words[4], &other) && take(words[5], &third))
+        return compare_results(words[2]);
     fputs("usage: example KIND FILE, example PARTS KIND FILE, example DAY FILE, example EB13 FILE EI13 FILE,\n"
-          "example BOARD KIND FILE FILE and a payer and won for each member, or example ANSWER FILE and yes or a code for\n"
-          "each record; files of no more than 4,098 KB that can be read, no more than 100 members and 430 answers\n",
+          "example BOARD KIND FILE FILE and a payer and won for each member, example ANSWER FILE and yes or a code for\n"
+          "each record, or example TWO KIND FILE FILE FILE; files of no more than 4,098 KB that can be read, no more than 100\n"
+          "members and 430 answers\n",
           stderr);
     return 2;
 }

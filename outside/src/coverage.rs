@@ -6,7 +6,7 @@
 
 use crate::evidence::layout::Profile;
 use crate::layout::{Family, Kind, PairKind};
-use crate::model::{Answer, NO_CODE};
+use crate::model::{Answer, Compared, NO_CODE};
 use std::collections::BTreeMap;
 use std::fmt;
 
@@ -32,6 +32,30 @@ pub enum Operation {
     Board(Option<PairKind>),
     /// An EB11 is answered.
     WriteEb12,
+    /// Two results of one request, by what comes of them.
+    TwoResults(Option<PairKind>, Both),
+}
+
+/// What is told of two results behind the five numbers.
+#[derive(Clone, Copy, Debug, PartialEq, Eq, PartialOrd, Ord)]
+pub enum Both {
+    FirstRefused,
+    SecondRefused,
+    /// No request is named.
+    Same,
+    /// Some request is.
+    Differ,
+}
+
+impl From<Compared> for Both {
+    fn from(compared: Compared) -> Both {
+        match compared {
+            Compared::FirstRefused => Both::FirstRefused,
+            Compared::SecondRefused => Both::SecondRefused,
+            Compared::Same => Both::Same,
+            Compared::Differ { .. } => Both::Differ,
+        }
+    }
 }
 
 impl Operation {
@@ -45,6 +69,10 @@ impl Operation {
 
     pub fn is_of_changes(&self) -> bool {
         matches!(self, Operation::WriteEb12)
+    }
+
+    pub fn is_of_two_results(&self) -> bool {
+        matches!(self, Operation::TwoResults(..))
     }
 
     pub fn is_of_evidence(&self) -> bool {
@@ -224,6 +252,9 @@ pub fn all() -> Vec<Entry> {
     list.placeless(Operation::WriteEb12, 0, &[0, 2, 3, 8, 51]);
     list.reading(Operation::WriteEb12, 0, Kind::EB11);
     list.rows(Operation::WriteEb12, 0, Part::Data, UNPAIRED_OR_SPLIT);
+    for pair in PairKind::ALL.map(Some).into_iter().chain([None]) {
+        list.comparing(pair);
+    }
     list.0
 }
 
@@ -307,16 +338,35 @@ impl List {
 
     /// What the two files and their meeting give, whoever asks.
     fn pairing(&mut self, operation: Operation, pair: PairKind) {
-        for (side, kind) in [(1, pair.request()), (2, pair.result())] {
-            self.placeless(operation, side, &[2, 3]);
-            self.reading(operation, side, kind);
-        }
+        self.placeless(operation, 1, &[2, 3]);
+        self.reading(operation, 1, pair.request());
+        self.answering(operation, pair);
+    }
+
+    /// The same where the request is good.
+    fn answering(&mut self, operation: Operation, pair: PairKind) {
+        self.placeless(operation, 2, &[2, 3]);
+        self.reading(operation, 2, pair.result());
         let (headers, results) = match pair.family() {
             Family::Enrolment => (ENROLMENT_HEADERS, ENROLMENT_RESULTS),
             Family::Debit => (DEBIT_HEADERS, DEBIT_RESULTS),
         };
         self.rows(operation, 0, Part::Header, headers);
         self.rows(operation, 0, Part::Data, results);
+    }
+
+    /// Only results of debits are compared. A request that is refused is refused with the first of them.
+    fn comparing(&mut self, pair: Option<PairKind>) {
+        let operation = |both| Operation::TwoResults(pair, both);
+        match pair {
+            None | Some(PairKind::Enrolment) => self.placeless(operation(Both::FirstRefused), 0, &[1]),
+            Some(debit) => {
+                self.pairing(operation(Both::FirstRefused), debit);
+                self.answering(operation(Both::SecondRefused), debit);
+                self.placeless(operation(Both::Same), 0, &[0]);
+                self.placeless(operation(Both::Differ), 0, &[0]);
+            }
+        }
     }
 
     /// A board has debits only.

@@ -8,7 +8,7 @@
 //! none panics:
 //!
 //! * [`model`]: what the treasurer is told: [`Answer`], [`Outcome`] with its [`Maker`], [`Step`],
-//!   [`EvidencePart`], [`DayAnswer`], [`DayBody`];
+//!   [`EvidencePart`], [`DayAnswer`], [`DayBody`], [`Compared`];
 //! * [`chars`]: characters, numbers and dates;
 //! * `checked`: one record against its rules, item by item;
 //! * [`layout`]: file kinds, pair kinds and their families, item lengths, least amounts, table codes;
@@ -22,7 +22,8 @@
 //! * [`day`]: a day file is read, asked for its bodies, and written;
 //! * [`arrival`]: a file is read while it arrives, part by part;
 //! * [`board`]: a debit pair is posted on the members' board;
-//! * [`changes`]: an EB11 is answered with an EB12, and both halves of a change alike.
+//! * [`changes`]: an EB11 is answered with an EB12, and both halves of a change alike;
+//! * [`two_results`](mod@two_results): two results of one debit request are compared.
 //!
 //! For the comparison:
 //!
@@ -57,6 +58,7 @@ pub mod proved;
 pub mod read;
 pub mod settings;
 pub mod shrink;
+pub mod two_results;
 pub mod walk;
 pub mod write;
 
@@ -67,11 +69,12 @@ pub use changes::write_eb12;
 pub use day::{day_body, day_read, day_write};
 pub use evidence::{evidence_compare, evidence_part, evidence_read, evidence_write};
 pub use model::{
-    eight, eight_of_day, eight_of_part, six, ten_of_body, ten_of_outcome, Answer, DayAnswer, DayBody,
-    EvidencePart, Maker, Outcome, Step,
+    eight, eight_of_day, eight_of_part, seven, six, ten_of_body, ten_of_outcome, Answer, Compared,
+    DayAnswer, DayBody, EvidencePart, Maker, Outcome, Step,
 };
 pub use pair::{outcome, pair};
 pub use post::{post, post_into};
 pub use read::read;
+pub use two_results::two_results;
 pub use walk::walk;
 pub use write::write;

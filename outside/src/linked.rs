@@ -96,6 +96,16 @@ extern "C" {
         room_length: usize,
         answer: *mut u64,
     ) -> u64;
+    fn cms_two_results(
+        pair: u32,
+        request: *const u8,
+        request_length: usize,
+        first: *const u8,
+        first_length: usize,
+        second: *const u8,
+        second_length: usize,
+        answer: *mut u64,
+    ) -> u64;
 }
 
 pub fn read(kind: u32, file: &[u8]) -> [u64; 5] {
@@ -274,6 +284,24 @@ pub fn write_eb12(eb11: &[u8], answers: &[u64], room: &mut [u8]) -> [u64; 6] {
             answers.len(),
             room.as_mut_ptr(),
             room.len(),
+            answer.as_mut_ptr(),
+        )
+    };
+    answer
+}
+
+pub fn two_results(pair: u32, request: &[u8], first: &[u8], second: &[u8]) -> [u64; 7] {
+    let mut answer = [0; 7];
+    // Safe: each pointer is good for the length that stands beside it, till the call returns.
+    unsafe {
+        cms_two_results(
+            pair,
+            request.as_ptr(),
+            request.len(),
+            first.as_ptr(),
+            first.len(),
+            second.as_ptr(),
+            second.len(),
             answer.as_mut_ptr(),
         )
     };

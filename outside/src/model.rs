@@ -149,6 +149,38 @@ impl Outcome {
     }
 }
 
+/// What comes of two results of one request.
+#[derive(Clone, Copy, Debug, PartialEq, Eq, Hash)]
+pub enum Compared {
+    /// Nothing, because the pair with the first result was refused, or the pair's kind.
+    FirstRefused,
+    /// Nothing, because the pair with the second result was.
+    SecondRefused,
+    /// The same was taken of every request, and the same was not.
+    Same,
+    /// This request is the first, from 1, of which another amount was.
+    Differ { request: u64 },
+}
+
+impl Compared {
+    /// The result whose pair was refused, from 1; 0 when neither was.
+    pub fn which(&self) -> u64 {
+        match self {
+            Compared::FirstRefused => 1,
+            Compared::SecondRefused => 2,
+            Compared::Same | Compared::Differ { .. } => 0,
+        }
+    }
+
+    /// The request that is named; 0 where there is none.
+    pub fn request(&self) -> u64 {
+        match *self {
+            Compared::Differ { request } => request,
+            _ => 0,
+        }
+    }
+}
+
 /// What the walk hands out.
 #[derive(Clone, Copy, Debug, PartialEq, Eq, Hash)]
 pub enum Step {
@@ -223,6 +255,12 @@ pub enum DayBody {
 pub fn six(answer: &Answer, length: u64) -> [u64; 6] {
     let [side, number, record, item, code] = answer.five();
     [side, number, record, item, code, length]
+}
+
+/// The seven numbers of `cms_two_results`.
+pub fn seven(answer: &Answer, compared: &Compared) -> [u64; 7] {
+    let [side, number, record, item, code] = answer.five();
+    [side, number, record, item, code, compared.which(), compared.request()]
 }
 
 /// The ten numbers of `cms_outcome`.

@@ -50,6 +50,9 @@ const BOARD_POST: Function =
 const WRITE_EB12: Function =
     Function { number: 21, lent: &["the EB11", "the answers", "the room", "the answer"] };
 
+const TWO_RESULTS: Function =
+    Function { number: 22, lent: &["the request", "the first result", "the second result", "the answer"] };
+
 /// What a file is written from.
 #[derive(Clone, Copy)]
 pub struct Parts<'a> {
@@ -166,6 +169,10 @@ impl Call {
 
     pub fn write_eb12(eb11: &[u8], answers: &[u64], room: &[u8]) -> Call {
         Call::of(&WRITE_EB12).slice(eb11).numbers(answers).room(room).answer(6)
+    }
+
+    pub fn two_results(pair: u32, request: &[u8], first: &[u8], second: &[u8]) -> Call {
+        Call::of(&TWO_RESULTS).number(pair.into()).slice(request).slice(first).slice(second).answer(7)
     }
 }
 
@@ -311,6 +318,11 @@ pub fn write_eb12(eb11: &[u8], answers: &[u64], room: &mut [u8]) -> [u64; 6] {
     let said = kept(ask(&Call::write_eb12(eb11, answers, room)));
     room.copy_from_slice(&said.written[..room.len()]);
     kept(told(&said))
+}
+
+/// The answer of the proved comparison of two results: the five, then which of them is refused and which request is named.
+pub fn two_results(pair: u32, request: &[u8], first: &[u8], second: &[u8]) -> [u64; 7] {
+    kept(ask(&Call::two_results(pair, request, first, second)).and_then(|said| told(&said)))
 }
 
 /// How many bytes of a member go through the bridge.

@@ -7,7 +7,7 @@ use crate::gen::{
 };
 use crate::layout::Kind;
 
-/// Drops records, then bytes, until nothing more can go; the kind is `None` where it is unknown.
+/// Drops records until none more can go, and then bytes where few are left; the kind is `None` where it is unknown.
 pub fn shrink(kind: Option<Kind>, file: &[u8], shows: impl Fn(&[u8]) -> bool) -> Vec<u8> {
     let mut file = file.to_vec();
     loop {
@@ -17,7 +17,9 @@ pub fn shrink(kind: Option<Kind>, file: &[u8], shows: impl Fn(&[u8]) -> bool) ->
                 mended(kind, rest).into_iter().find(|f| shows(f))
             });
         }
-        drop_runs(&mut file, 1, |rest| shows(&rest).then_some(rest));
+        if file.len() <= 4 * BLOCK {
+            drop_runs(&mut file, 1, |rest| shows(&rest).then_some(rest));
+        }
         if file.len() == before {
             return file;
         }

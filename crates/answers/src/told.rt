@@ -46,3 +46,11 @@ pub struct Stored {
     pub answer: Answer,
     pub size: usize,
 }
+
+// An answer about two results of one request: where it is a refusal, which of them it is about; where it is none, the first
+// request, from 1 on, in which they differ. Each is 0 where there is none.
+pub struct Story {
+    pub answer: Answer,
+    pub which: u64,
+    pub request: u64,
+}

@@ -16,7 +16,8 @@ use Rattle.payers.specs.declared.members.Member.{Member}
 use Rattle.payers.specs.declared.turns.Task.{Task}
 use Rattle.payers.specs.declared.turns.Task.the-variants.{Rest, Seek, Mark, Settle}
 use Rattle.payers.specs.declared.turns.Place.{Place}
-use Rattle.payers.specs.Members.{nobody, payerOn, owedOn, repeatOn, numberIn, repeatNumber}
+use Rattle.laws.specs.Least.{numberIn}
+use Rattle.payers.specs.Members.{nobody, payerOn, owedOn, repeatOn, repeatNumber}
 use Rattle.payers.specs.Payers.{memberAfter, membersAfter}
 use Rattle.payers.specs.Turns.{held, placed, startOf, duesKey, listed, goesOn, nextIn, movedOn, seen, soughtPlace, marksWith, marked, settledBy, DuesAsks, Asks, placeAfter, turnedMember, linksAfter, roomAfter}
 use Rattle.board.specs.Passing.{Begins, Marks, Passed}

@@ -5,17 +5,18 @@ use mathlib.Core.Bool.{true}
 use mathlib.Core.List.{List}
 use mathlib.Core.Path.{_≡_, refl, sym}
 use mathlib.Core.Logic.{⊎-elim}
-use native.Mathlib.Nat.{le-refl, eq-or-lt-of-le}
+use native.Mathlib.Nat.{eq-or-lt-of-le}
 use native.Mathlib.Omega.{arith}
-use borrow.Author.Tests.{lt-ltb, le-ltb, ltb-true}
+use borrow.Author.Tests.{ltb-true}
 use lib.ListN.{length}
-use Rattle.laws.specs.Least.{least, some}
+use Rattle.laws.specs.Least.{least, some, numberIn}
 use Rattle.laws.proofs.Leasts.{least-is, least-none, least-before, some-true}
+use Rattle.laws.proofs.Leasts as leasts
 use Rattle.laws.proofs.Parts.{same-equal, same-self}
 use Rattle.keys.specs.Keys.{sharesIn, repeatsIn, Distinct}
 use Rattle.keys.proofs.Distinct.{distinct-if, repeat-none}
 use Rattle.payers.specs.declared.members.Member.{Member}
-use Rattle.payers.specs.Members.{payerOn, repeatOn, numberIn, repeatNumber}
+use Rattle.payers.specs.Members.{payerOn, repeatOn, repeatNumber}
 use Rattle.board.specs.First.{Repeats}
 
 module _ (board : List Member) (k : ℕ) where
@@ -33,12 +34,12 @@ module _ (board : List Member) (k : ℕ) where
 
 -- the number of the first that does, and 0 where none does
 pub number-here : (board : List Member) (k : ℕ) → k < length board → repeatOn board ≡ k → repeatNumber board ≡ k + 1
-unfolding repeatNumber numberIn
-number-here board k h e = rw (e, lt-ltb k (length board) h)
+unfolding repeatNumber
+number-here board k h e = rw e (leasts.number-here (length board) k h)
 
 pub number-none : (board : List Member) → length board ≡ repeatOn board → repeatNumber board ≡ 0
-unfolding repeatNumber numberIn
-number-none board e = rw (← e, le-ltb (length board) (length board) (le-refl (length board)))
+unfolding repeatNumber
+number-none board e = rw (← e) (leasts.number-none (length board))
 
 -- no member is told to repeat an earlier one: payers differ
 pub payers-differ : (board : List Member) → repeatNumber board ≡ 0 → Distinct (payerOn board) (length board)

@@ -1,6 +1,6 @@
 -- The records of an EB12 keep the rules of its layout, since those of the EB11 keep theirs.
 -- Assumes nothing.
-use Prim.Native.Nat.{ℕ, _+_, _-_, _*_, _^_, _≤_, _<_}
+use Prim.Native.Nat.{ℕ, _+_, _*_, _^_, _≤_, _<_}
 use mathlib.Core.Bool.{Bool, true, _&&_}
 use mathlib.Core.List.{List}
 use mathlib.Core.Path.{_≡_, refl, sym, _∙_, ap}
@@ -12,11 +12,11 @@ use Rattle.laws.specs.Part.{part, same}
 use Rattle.laws.specs.Least.{least, further}
 use Rattle.laws.proofs.Bools.{and-both}
 use Rattle.laws.specs.Stored.{stored}
-use Rattle.laws.proofs.Parts.{part-length, part-at, part-join, part-part, same-equal, same-self}
+use Rattle.laws.proofs.Parts.{part-length, part-join, part-part, part-byte, same-equal, same-self}
 use Rattle.text.specs.Characters.{within, takes, stopsAt, front, each, digits, spaces, zeros}
 use Rattle.numbers.specs.Numbers.{wordOf}
 use Rattle.numbers.proofs.Values.{digits-are, says-within}
-use Rattle.kinds.specs.declared.of_files.Role.the-variants.{Header, Data, Trailer}
+use Rattle.kinds.specs.declared.of_files.Role.the-variants.{Data}
 use Rattle.kinds.specs.Kinds.{EB11}
 use Rattle.tables.specs.Rows.{blank}
 use Rattle.tables.specs.Tables.{headerFront, enrolmentHeader, dataFront, enrolmentData, bankEnrolmentData, trailerFront, enrolmentTrailer, enrolmentRequestTrailer, enrolmentResultTrailer, rowsOf}
@@ -24,11 +24,10 @@ use Rattle.tables.specs.Totals.{enrolmentTotals, totalsOf}
 use Rattle.layout.specs.Items.{applicationOf}
 use Rattle.layout.specs.Rules.{owner, meets, holds}
 use Rattle.tables.specs.Among.{Among}
-use Rattle.records.specs.Records.{recordAt, recordOf, countOf, dataOf, trailerOf}
+use Rattle.records.specs.Records.{recordAt, recordOf, dataOf, trailerOf}
 use Rattle.records.proofs.Places.{record-inside}
 use Rattle.reader.specs.Meets.{Meets}
-use Rattle.reader.proofs.Roles.{role-header, role-trailer}
-use Rattle.reader.proofs.Accepted.{data-row}
+use Rattle.reader.proofs.Accepted.{header-row, data-row, trailer-row}
 use Rattle.changes.specs.Halves.{recordIn}
 use Rattle.changes.specs.Answers.{ourCodes}
 use Rattle.changes.proofs.Found.{record-length}
@@ -53,26 +52,9 @@ blanks : each 0x20 0x20 (replicate 10 0x20) ≡ true
 unfolding each front stopsAt takes within least further
 blanks = refl
 
--- bytes that two records share, by a part that they share
-byte-same : (at : ℕ) (x y : List ℕ) → part at 1 x ≡ part at 1 y → getD x at 0 ≡ getD y at 0
-byte-same at x y e =
-    let p = part-at at 1 x 0 (omega arith) in
-    let q = part-at at 1 y 0 (omega arith) in
-    let z : at + 0 ≡ at = omega arith in
-    sym (rw z at p) ∙ (ap (λ (l : List ℕ). getD l 0 0) e ∙ rw z at q)
-
 module _ (s : List ℕ) (m : Meets EB11 s) where
   abbrev H : List ℕ
   H = recordOf EB11 s 0
-
-  -- the rows of the header and of the trailer of the EB11
-  header-row : (j : ℕ) → j < length (rowsOf EB11 Header) → holds (EB11 .own) H H 0 (getD (rowsOf EB11 Header) j blank) ≡ true
-  header-row j l = let role = role-header (countOf EB11 s) 0 refl in rw role at (m .rows 0 (omega (arith, m .lengths .fewest)) j (rw role l))
-
-  trailer-row : (j : ℕ) → j < length (rowsOf EB11 Trailer) → holds (EB11 .own) (trailerOf EB11 s) H (countOf EB11 s - 1) (getD (rowsOf EB11 Trailer) j blank) ≡ true
-  trailer-row j l =
-      let role = role-trailer (countOf EB11 s) (countOf EB11 s - 1) (omega (arith, m .lengths .fewest)) (omega (arith, m .lengths .fewest)) in
-      rw role at (m .rows (countOf EB11 s - 1) (omega (arith, m .lengths .fewest)) j (rw role l))
 
   H-long : length H ≡ 120
   unfolding recordAt
@@ -91,15 +73,15 @@ module _ (s : List ℕ) (m : Meets EB11 s) where
   pub header-laid : allHold (EB12 .own) new new 0 enrolmentHeader ≡ true
   unfolding allHold holds meets headerFront enrolmentHeader
   header-laid =
-      (rw (← new-front 0 1 (omega arith)) at (header-row 0 (omega arith))) also
-      (rw (← new-front 1 8 (omega arith)) at (header-row 1 (omega arith))) also
-      (rw (← new-front 9 10 (omega arith)) at (header-row 2 (omega arith))) also
+      (rw (← new-front 0 1 (omega arith)) at (header-row EB11 s m 0 (omega arith))) also
+      (rw (← new-front 1 8 (omega arith)) at (header-row EB11 s m 1 (omega arith))) also
+      (rw (← new-front 9 10 (omega arith)) at (header-row EB11 s m 2 (omega arith))) also
       named-word also
-      (rw (← new-back 23 4 (omega arith)) at (header-row 4 (omega arith))) also
-      (rw (← new-back 27 6 (omega arith)) at (header-row 5 (omega arith))) also
-      (rw (← new-back 27 6 (omega arith)) at (header-row 6 (omega arith))) also
-      (rw (← new-back 27 6 (omega arith), ← new-back 23 4 (omega arith)) at (header-row 7 (omega arith))) also
-      (rw (← new-back 33 87 (omega arith)) at (header-row 8 (omega arith))) also
+      (rw (← new-back 23 4 (omega arith)) at (header-row EB11 s m 4 (omega arith))) also
+      (rw (← new-back 27 6 (omega arith)) at (header-row EB11 s m 5 (omega arith))) also
+      (rw (← new-back 27 6 (omega arith)) at (header-row EB11 s m 6 (omega arith))) also
+      (rw (← new-back 27 6 (omega arith), ← new-back 23 4 (omega arith)) at (header-row EB11 s m 7 (omega arith))) also
+      (rw (← new-back 33 87 (omega arith)) at (header-row EB11 s m 8 (omega arith))) also
       end
     where
       named-word : eqb (wordOf (part 19 4 new)) 0x45423132 ≡ true
@@ -126,7 +108,7 @@ module _ (s : List ℕ) (m : Meets EB11 s) where
     row j l = data-row EB11 s m i h j l
 
     pub same-kind : applicationOf made ≡ applicationOf rec
-    same-kind = byte-same 25 made rec (before 25 1 (omega arith) (omega arith))
+    same-kind = part-byte 25 1 25 made rec (before 25 1 (omega arith) (omega arith)) (omega arith) (omega arith)
 
     pub items-laid : allHold (EB12 .own) made new serial (but 12 bankEnrolmentData) ≡ true
     unfolding allHold but holds meets owner dataFront enrolmentData bankEnrolmentData
@@ -164,7 +146,7 @@ module _ (s : List ℕ) (m : Meets EB11 s) where
 
     name-row : same (part 19 8 old) (part 19 8 H) ≡ true
     unfolding holds meets trailerFront enrolmentTrailer enrolmentResultTrailer
-    name-row = trailer-row 3 (omega arith)
+    name-row = trailer-row EB11 s m 3 (omega arith)
 
     -- its name is the header's
     day-same : part 23 4 old ≡ part 23 4 H
@@ -181,16 +163,16 @@ module _ (s : List ℕ) (m : Meets EB11 s) where
     pub trailer-laid : allHold (EB12 .own) last new number enrolmentRequestTrailer ≡ true
     unfolding allHold holds meets digits zeros spaces trailerFront enrolmentTrailer enrolmentRequestTrailer enrolmentResultTrailer enrolmentTotals
     trailer-laid =
-        (rw (← in-front 0 1 (omega arith)) at (trailer-row 0 (omega arith))) also
-        (rw (← in-front 1 8 (omega arith)) at (trailer-row 1 (omega arith))) also
-        (rw (← in-front 9 10 (omega arith), ← new-front 9 10 (omega arith)) at (trailer-row 2 (omega arith))) also
+        (rw (← in-front 0 1 (omega arith)) at (trailer-row EB11 s m 0 (omega arith))) also
+        (rw (← in-front 1 8 (omega arith)) at (trailer-row EB11 s m 1 (omega arith))) also
+        (rw (← in-front 9 10 (omega arith), ← new-front 9 10 (omega arith)) at (trailer-row EB11 s m 2 (omega arith))) also
         names-agree also
         digits-here 0 (omega arith) also
         digits-here 1 (omega arith) also
-        (rw (← kept .zeros) at (trailer-row 6 (omega arith))) also
+        (rw (← kept .zeros) at (trailer-row EB11 s m 6 (omega arith))) also
         digits-here 2 (omega arith) also
         digits-here 3 (omega arith) also
-        (rw (← kept .blank) at (trailer-row 9 (omega arith))) also
+        (rw (← kept .blank) at (trailer-row EB11 s m 9 (omega arith))) also
         (rw (← kept .mac) at blanks) also
         end
       where

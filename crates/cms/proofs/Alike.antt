@@ -20,6 +20,7 @@ use Rattle.cms.proofs.read.cms_read.Reads as read
 use Rattle.cms.proofs.write.cms_write.Reads as write
 use Rattle.cms.proofs.pairs.cms_pair.Reads as pair
 use Rattle.cms.proofs.pairs.cms_outcome.Reads as outcome
+use Rattle.cms.proofs.pairs.cms_two_results.Reads as two-results
 use Rattle.cms.proofs.walk.cms_walk.Reads as walk
 use Rattle.cms.proofs.arrive.cms_part.Reads as part
 use Rattle.cms.proofs.arrive.cms_end.Reads as ending
@@ -79,6 +80,9 @@ pair-alike = alike pair.Post _ _ (λ κ x r s p. p .0 with p .1 .0 also p .1 .1 
 
 pub outcome-alike : Alike outcome.Post (λ κ r s. sees r (now (s .1 .1 .1 .1 .0) ∷ []))
 outcome-alike = alike outcome.Post _ _ (λ κ x r s p. p .0 with p .1 also end)
+
+pub two-results-alike : Alike two-results.Post (λ κ r s. sees r (now (s .1 .1 .1 .1 .0) ∷ []))
+two-results-alike = alike two-results.Post _ _ (λ κ x r s p. p .0 with p .1 also end)
 
 pub walk-alike : Alike walk.Post (λ κ r s. sees r (now (s .1 .1 .1 .0) ∷ []))
 walk-alike = alike walk.Post _ _ (λ κ x r s p. p .0 with p .1 also end)

@@ -1,13 +1,16 @@
-// A request with its result, and one request's outcome.
+// A request with its result, one request's outcome, and a request with two results.
 ghost use mathlib.Core.Path.{_≡_};
 ghost use lib.ListN.{length};
 ghost use Rattle.pair.specs.Pairing.{pairTold, takenAfter, notTakenAfter};
 ghost use Rattle.outcomes.specs.Outcomes.{outcomeTold};
-ghost use Rattle.telling.specs.Numbers.{five, ten};
+ghost use Rattle.two_results.specs.Comparing.{storyTold};
+ghost use Rattle.telling.specs.Numbers.{five, storySeven, ten};
 use outcomes::asking;
 use pair::pairing;
 use telling::answer::tell;
+use telling::answer::tell_story;
 use telling::outcome::tell_outcome;
+use two_results::comparing;
 
 // Pairs a request with its result. Returns the refusal's number, 0 when accepted; a refusal leaves both lists as they were.
 #[no_mangle]
@@ -42,4 +45,20 @@ pub extern "C" fn cms_outcome(
 {
     let told = asking::outcome(pair as u64, request, result, record);
     tell_outcome(told, answer)
+}
+
+// Compares two results of one debit request. Returns the refusal's number, 0 when both pair with it.
+#[no_mangle]
+pub extern "C" fn cms_two_results(
+    pair: u32,
+    request: &[u8],
+    first: &[u8],
+    second: &[u8],
+    answer: &mut [u64; 7],
+) -> u64
+    ensures { λ r. ⌜ r ≡ storyTold pair (now (request .entry)) (now (first .entry)) (now (second .entry)) .answer .number ⌝ }
+    ensures { λ _. ⌜ now (answer .exit) ≡ storySeven (storyTold pair (now (request .entry)) (now (first .entry)) (now (second .entry))) ⌝ }
+{
+    let told = comparing::compare(pair as u64, request, first, second);
+    tell_story(told, answer)
 }

@@ -9,7 +9,7 @@ use native.Mathlib.Numerals.{add-one}
 use native.Mathlib.Omega.{arith}
 use borrow.Author.Tests.{lt-ltb, le-ltb, ltb-true, ltb-false, eq-eqb, ne-eqb, eqb-true}
 use lib.Dec.{ltb, eqb}
-use Rattle.laws.specs.Least.{least, further, some, none}
+use Rattle.laws.specs.Least.{least, further, some, none, numberIn}
 use Rattle.laws.proofs.Bools.{either, clash}
 
 -- what is found below n stays; else place n is the first, or there is none
@@ -153,3 +153,12 @@ some-true p n k h t = lt-ltb (least p n) n (least-some p n k h t)
 pub some-false : (p : ℕ → Bool) (n : ℕ) → least p n ≡ n → some p n ≡ false
 unfolding some
 some-false p n e = le-ltb (least p n) n (omega arith)
+
+-- the number of a place, and 0 past the last
+pub number-here : (n k : ℕ) → k < n → numberIn n k ≡ k + 1
+unfolding numberIn
+number-here n k h = rw (lt-ltb k n h)
+
+pub number-none : (n : ℕ) → numberIn n n ≡ 0
+unfolding numberIn
+number-none n = rw (le-ltb n n (le-refl n))

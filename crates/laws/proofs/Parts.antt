@@ -123,3 +123,24 @@ drop-part a c d s h g =
       drop-at (take a (drop c s)) (take (d - a) (drop a (drop c s))) a (length-take-le a (drop c s) (rw length-drop (omega arith))),
       drop-drop a c s,
     )
+
+-- lists that share a part share each of its elements, and the other way round
+pub part-byte : (start size k : ℕ) (x y : List ℕ) → part start size x ≡ part start size y → start ≤ k → k < start + size → getD x k 0 ≡ getD y k 0
+part-byte start size k x y e l h =
+    let i : start + (k - start) ≡ k = omega arith in
+    let p = part-at start size x (k - start) (omega arith) in
+    let q = part-at start size y (k - start) (omega arith) in
+    sym (rw i at p) ∙ (ap (λ (l : List ℕ). getD l (k - start) 0) e ∙ rw i at q)
+
+pub bytes-part :
+    (start size : ℕ) (x y : List ℕ) → start + size ≤ length x → length x ≡ length y →
+    ((k : ℕ) → start ≤ k → k < start + size → getD x k 0 ≡ getD y k 0) → part start size x ≡ part start size y
+bytes-part start size x y h e f = ext-getD 0 (part start size x) (part start size y) (long ∙ sym (part-length start size y (omega arith))) at
+  where
+    long : length (part start size x) ≡ size
+    long = part-length start size x h
+
+    at : (i : ℕ) → i < length (part start size x) → getD (part start size x) i 0 ≡ getD (part start size y) i 0
+    at i l =
+        let k : i < size = omega (arith, long) in
+        part-at start size x i k ∙ (f (start + i) (omega arith) (omega arith) ∙ sym (part-at start size y i k))

@@ -6,6 +6,7 @@ use mathlib.Core.Path.{_≡_, refl, sym, _∙_}
 use mathlib.Core.Logic.{⊎-elim}
 use native.Mathlib.Nat.{le-of-eq, eq-or-lt-of-le, le-of-suc-le-suc, not-suc-le-zero}
 use native.Mathlib.Numerals.{add-one}
+use native.Mathlib.Omega.{arith}
 use lib.ListN.{length, getD, take, drop, set, length-append, List·getD-append}
 use lib.Seq.{take-suc-set, take-all, ext-getD, getD-at, drop-cons, set-at}
 use Rattle.laws.specs.Tabulate.{tabulate}
@@ -38,10 +39,14 @@ module _ (f : ℕ → ℕ) where
       front : (j < n → getD (tabulate f n) j 0 ≡ f j) → j < n → getD (tabulate f n ++ (f n ∷ [])) j 0 ≡ f j
       front ih l = List·getD-append (tabulate f n) (f n ∷ []) 0 j (rw tab-length l) ∙ ih l
 
-pub tab-same : (f g : ℕ → ℕ) (n : ℕ) → ((j : ℕ) → f j ≡ g j) → tabulate f n ≡ tabulate g n
+-- the same at each place, the same list
+pub tab-within : (f g : ℕ → ℕ) (n : ℕ) → ((j : ℕ) → j < n → f j ≡ g j) → tabulate f n ≡ tabulate g n
 unfolding tabulate
-tab-same f g zero h = refl
-tab-same f g (suc n) h = rw (tab-same f g n h, h n)
+tab-within f g zero e = refl
+tab-within f g (suc n) e = rw (tab-within f g n (λ j l. e j (omega arith)), e n (omega arith))
+
+pub tab-same : (f g : ℕ → ℕ) (n : ℕ) → ((j : ℕ) → f j ≡ g j) → tabulate f n ≡ tabulate g n
+tab-same f g n h = tab-within f g n (λ j l. h j)
 
 -- a list is what stands at each of its places
 pub tab-list : (f : ℕ → ℕ) (l : List ℕ) → ((i : ℕ) → i < length l → f i ≡ getD l i 0) → tabulate f (length l) ≡ l

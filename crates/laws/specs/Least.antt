@@ -1,5 +1,5 @@
 -- The first place where: one search for everything that looks for a first.
-use Prim.Native.Nat.{ℕ, zero, suc}
+use Prim.Native.Nat.{ℕ, zero, suc, _+_}
 use mathlib.Core.Bool.{Bool, cond}
 use lib.Dec.{ltb, eqb}
 
@@ -19,3 +19,7 @@ some p n = ltb (least p n) n
 -- p holds at no place below n
 unfoldable pub none : (ℕ → Bool) → ℕ → Bool
 none p n = eqb (least p n) n
+
+-- the number of place k of n, counted from 1; 0 where it is none of them
+unfoldable pub numberIn : ℕ → ℕ → ℕ
+numberIn n k = cond (ltb k n) (k + 1) 0

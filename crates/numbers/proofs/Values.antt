@@ -110,6 +110,10 @@ pub digits-value : (s : List ℕ) → digits s ≡ true → digitsOf (length s) 
 unfolding valueOf
 digits-value s t = digits-value-to s t (length s) (le-refl (length s)) ∙ take-length s
 
+-- so digits that say the same are the same
+pub digits-same : (x y : List ℕ) → digits x ≡ true → digits y ≡ true → length x ≡ length y → valueOf x ≡ valueOf y → x ≡ y
+digits-same x y t u long e = sym (digits-value x t) ∙ rw (long, e) (digits-value y u)
+
 -- a date has six bytes
 pub isDate-length : (s : List ℕ) → isDate s ≡ true → length s ≡ 6
 unfolding isDate

@@ -23,7 +23,7 @@ use Rattle.pair.proofs.Matched.{Paired, met-is, met-found, pair-known, 
 
 module _ (p : PairKind) (q r : List ℕ) where
   -- the requests that are found are an assignment
-  paired-assigned : Paired p q r → Assignment p q r
+  pub paired-assigned : Paired p q r → Assignment p q r
   paired-assigned h = record {
     to = requestFor p q r;
     distinct = λ j l b c e.

@@ -54,11 +54,11 @@ module _ (p o : PairKind) (family : o .family ≡ p .family) (q r : List ℕ) (f
       by-result p q r fits (number-of good) (named-other told) ∙ ap (onSide 2) told
 
 -- the two pair kinds of debits, by their numbers
-next-day : pairOf 0x45423231 ≡ Is debitPair
+pub next-day : pairOf 0x45423231 ≡ Is debitPair
 unfolding pairOf pairFrom requestIs pairs least further
 next-day = refl
 
-same-day : pairOf 0x45433231 ≡ Is sameDayPair
+pub same-day : pairOf 0x45433231 ≡ Is sameDayPair
 unfolding pairOf pairFrom requestIs pairs least further
 same-day = refl
 

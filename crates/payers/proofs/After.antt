@@ -13,7 +13,8 @@ use Rattle.laws.proofs.Bools.{either, clash}
 use Rattle.laws.proofs.Parts.{inside}
 use Rattle.keys.proofs.Spaced.{first-same}
 use Rattle.payers.specs.declared.members.Member.{Member}
-use Rattle.payers.specs.Members.{nobody, payerOn, owedOn, repeatOn, numberIn, repeatNumber}
+use Rattle.laws.specs.Least.{numberIn}
+use Rattle.payers.specs.Members.{nobody, payerOn, owedOn, repeatOn, repeatNumber}
 use Rattle.payers.specs.Payers.{named, takenFrom, stateOf, settled, memberAfter, membersAfter}
 use Rattle.payers.proofs.Named.{named-if, taken-none}
 

@@ -1,10 +1,10 @@
 -- The board: its members one after the other, counted from 0.
-use Prim.Native.Nat.{ℕ, _+_}
+use Prim.Native.Nat.{ℕ}
 use mathlib.Core.Bool.{cond}
 use mathlib.Core.List.{List, []}
-use lib.Dec.{ltb, eqb}
+use lib.Dec.{eqb}
 use lib.ListN.{length, getD}
-use Rattle.laws.specs.Least.{least}
+use Rattle.laws.specs.Least.{least, numberIn}
 use Rattle.laws.specs.Sum.{sum}
 use Rattle.answers.specs.declared.told.Answer.{Answer}
 use Rattle.answers.specs.Answers.{accepted, refusedAt}
@@ -30,9 +30,6 @@ unfoldable pub repeatOn : List Member → ℕ
 repeatOn board = least (repeatsIn (payerOn board)) (length board)
 
 -- its number, from 1; 0 where there is none
-unfoldable pub numberIn : ℕ → ℕ → ℕ
-numberIn many k = cond (ltb k many) (k + 1) 0
-
 unfoldable pub repeatNumber : List Member → ℕ
 repeatNumber board = numberIn (length board) (repeatOn board)
 

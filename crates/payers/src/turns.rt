@@ -1,7 +1,7 @@
 // One turn of a pass over the board: a member goes in, and the next place and the member come out.
+ghost use Rattle.laws.specs.Least.{numberIn};
 ghost use mathlib.Core.Path.{_≡_};
 ghost use Prim.Native.Nat.{_+_, _<_};
-ghost use Rattle.payers.specs.Members.{numberIn};
 ghost use Rattle.payers.specs.Turns.{placed, startOf, Asks, placeAfter, turnedMember, linksAfter, roomAfter, turnedTo};
 use crate::members::Member;
 use crate::paying;

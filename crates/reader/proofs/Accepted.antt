@@ -1,6 +1,6 @@
 -- What is known of an accepted file, for the crates above: nobody unfolds reading again.
 -- Assumes nothing.
-use Prim.Native.Nat.{ℕ, _+_, _<_}
+use Prim.Native.Nat.{ℕ, _+_, _-_, _<_}
 use mathlib.Core.Bool.{true, _&&_}
 use mathlib.Core.List.{List}
 use mathlib.Core.Path.{_≡_, refl}
@@ -13,7 +13,7 @@ use Rattle.laws.proofs.Bools.{and-right}
 use Rattle.text.specs.Characters.{digits}
 use Rattle.numbers.specs.Numbers.{valueOf, says}
 use Rattle.kinds.specs.declared.of_files.Kind.{Kind}
-use Rattle.kinds.specs.declared.of_files.Role.the-variants.{Data}
+use Rattle.kinds.specs.declared.of_files.Role.the-variants.{Header, Data, Trailer}
 use Rattle.kinds.specs.declared.of_files.Named.{Named}
 use Rattle.kinds.specs.declared.of_files.Named.the-variants.{Is, Unknown}
 use Rattle.kinds.specs.Kinds.{kindOf}
@@ -27,7 +27,7 @@ use Rattle.records.specs.Records.{recordOf, countOf, dataOf, trailerOf}
 use Rattle.records.specs.Quantities.{quantityOf}
 use Rattle.reader.specs.Totals.{totalHolds}
 use Rattle.reader.specs.Reading.{readAs, readNamed, readOf}
-use Rattle.reader.proofs.Roles.{role-data}
+use Rattle.reader.proofs.Roles.{role-header, role-data, role-trailer}
 use Rattle.reader.specs.Meets.{Meets}
 use Rattle.reader.proofs.Exact.{read-exact, accepted-meets}
 
@@ -77,3 +77,18 @@ pub data-row :
 data-row k s m i h j l =
     let role = role-data (countOf k s) (i + 1) (omega arith) (omega (arith, m .lengths .fewest)) in
     rw role at (m .rows (i + 1) (omega (arith, m .lengths .fewest)) j (rw role l))
+
+-- and so does row j of its header and of its trailer
+pub header-row :
+    (k : Kind) (s : List ℕ) → Meets k s → (j : ℕ) → j < length (rowsOf k Header) →
+    holds (k .own) (recordOf k s 0) (recordOf k s 0) 0 (getD (rowsOf k Header) j blank) ≡ true
+header-row k s m j l =
+    let role = role-header (countOf k s) 0 refl in
+    rw role at (m .rows 0 (omega (arith, m .lengths .fewest)) j (rw role l))
+
+pub trailer-row :
+    (k : Kind) (s : List ℕ) → Meets k s → (j : ℕ) → j < length (rowsOf k Trailer) →
+    holds (k .own) (trailerOf k s) (recordOf k s 0) (countOf k s - 1) (getD (rowsOf k Trailer) j blank) ≡ true
+trailer-row k s m j l =
+    let role = role-trailer (countOf k s) (countOf k s - 1) (omega (arith, m .lengths .fewest)) (omega (arith, m .lengths .fewest)) in
+    rw role at (m .rows (countOf k s - 1) (omega (arith, m .lengths .fewest)) j (rw role l))

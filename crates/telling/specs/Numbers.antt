@@ -1,8 +1,9 @@
--- Answers as numbers: side, number, record, item, code; then what storing, an outcome, a step or a part says.
+-- Answers as numbers: side, number, record, item, code; then what storing, two results, an outcome, a step or a part says.
 use Prim.Native.Nat.{ℕ}
 use mathlib.Core.List.{List, [], _∷_, _++_}
 use Rattle.answers.specs.declared.told.Answer.{Answer}
 use Rattle.answers.specs.declared.told.Stored.{Stored}
+use Rattle.answers.specs.declared.told.Story.{Story}
 use Rattle.answers.specs.declared.lying.Lies.{Lies}
 use Rattle.answers.specs.declared.of_day.DayAnswer.{DayAnswer}
 use Rattle.answers.specs.declared.of_day.DayTold.{DayTold}
@@ -20,6 +21,10 @@ five a = a .side ∷ a .number ∷ a .rec ∷ a .item ∷ a .code ∷ []
 -- how many bytes were stored follows
 abbrev pub six : Stored → List ℕ
 six s = five (s .answer) ++ (s .size ∷ [])
+
+-- which of two results, and which request, follow
+abbrev pub storySeven : Story → List ℕ
+storySeven s = five (s .answer) ++ (s .which ∷ s .request ∷ [])
 
 -- an outcome's case, taken, not taken, code and maker follow
 abbrev pub ten : Told → List ℕ

@@ -123,7 +123,7 @@ module _ (k : Kind) (s : List ℕ) (m : Meets k s) where
           rw (ne-eqb (countOf k s - 1) 0 (λ e. omega (arith, count)), eq-eqb (countOf k s - 1 + 1) (countOf k s) (omega (arith, count)))
 
   -- each record is the one that is built
-  header-rebuilt : Bytes s → headerBuilt k (headIn k s) ≡ H
+  pub header-rebuilt : Bytes s → headerBuilt k (headIn k s) ≡ H
   unfolding headIn recordAt
   header-rebuilt bytes = header-again k H (record-length k s m 0 (omega (arith, count))) header-bytes header-holds
     where

@@ -1,11 +1,11 @@
 -- The sums of the records that are built, one record more at a time.
 -- Assumes nothing.
-use Prim.Native.Nat.{ℕ, zero, suc, _+_, _≤_, _<_, _^_}
+use Prim.Native.Nat.{ℕ, _+_, _≤_, _<_, _^_}
 use mathlib.Core.Bool.{Bool, true, false, cond}
 use mathlib.Core.List.{List, [], _∷_}
 use mathlib.Core.Path.{_≡_, refl, sym}
 use mathlib.Core.Logic.{⊎-elim}
-use native.Mathlib.Nat.{le-refl, min-le-left}
+use native.Mathlib.Nat.{min-le-left}
 use native.Mathlib.Omega.{arith}
 use lib.Dec.{ltb, eqb}
 use lib.ListN.{length, getD, drop, length-take}
@@ -14,7 +14,7 @@ use Rattle.laws.specs.Sum.{sum}
 use Rattle.laws.specs.Tabulate.{tabulate}
 use Rattle.laws.proofs.Bools.{either}
 use Rattle.laws.proofs.Sums.{sum-more, sum-bound, sum-same, sum-zero}
-use Rattle.laws.proofs.Tabs.{tab-at, tab-same}
+use Rattle.laws.proofs.Tabs.{tab-at, tab-same, tab-within}
 use Rattle.kinds.specs.declared.of_files.Kind.{Kind}
 use Rattle.kinds.specs.Kinds.{limit}
 use Rattle.tables.specs.declared.totals.Quantity.{Quantity}
@@ -28,11 +28,6 @@ use Rattle.numbers.proofs.Values.{value-within}
 use Rattle.records.specs.Quantities.{worth}
 use Rattle.builder.specs.Records.{dataBuilt, bodyCount, builtWorth, builtQuantity, builtTotal, builtTotals}
 use Rattle.writer.specs.Writing.{worthFor, worthBuilt, sumTo, sumWith}
-
-tab-within : (f g : ℕ → ℕ) (n : ℕ) → ((j : ℕ) → j < n → f j ≡ g j) → tabulate f n ≡ tabulate g n
-unfolding tabulate
-tab-within f g zero e = refl
-tab-within f g (suc n) e = rw (tab-within f g n (λ j l. e j (omega arith)), e n (le-refl (suc n)))
 
 -- what one record adds is small
 amount-small : (rec : List ℕ) → amountOf rec ≤ 10 ^ 13

@@ -41,6 +41,7 @@ mod requests;
 mod results;
 mod spoiling;
 mod texts;
+mod two_results;
 mod units;
 mod writes;
 
@@ -71,4 +72,5 @@ pub use random::{Rng, SPECIAL_BYTES};
 pub use requests::{good_request, request_of};
 pub use results::{good_draft, result_of};
 pub use spoiling::spoil;
+pub use two_results::{any_two_results, sent_again, TwoResultsInput};
 pub use writes::{any_write, WriteInput};

@@ -79,7 +79,7 @@ fn any_two_files(rng: &mut Rng, pair: PairKind) -> (Vec<u8>, Vec<u8>) {
 }
 
 /// A same-day debit for a next-day one, and the other way round.
-fn of_the_other_day(kind: Kind) -> Kind {
+pub(super) fn of_the_other_day(kind: Kind) -> Kind {
     match kind {
         Kind::EB11 | Kind::EB13 | Kind::EB14 => kind,
         Kind::EB21 => Kind::EC21,
@@ -90,7 +90,7 @@ fn of_the_other_day(kind: Kind) -> Kind {
 }
 
 /// A result of another institution, day, bank or account.
-fn differ_in_header(rng: &mut Rng, result: &mut Draft) {
+pub(super) fn differ_in_header(rng: &mut Rng, result: &mut Draft) {
     let times = rng.pick(&[1, 1, 1, 2]);
     for _ in 0..times {
         match rng.below(4) {
@@ -108,7 +108,7 @@ fn differ_in_header(rng: &mut Rng, result: &mut Draft) {
 
 /// A result record with another good item: a copied one or half of the key;
 /// sometimes it is that of another request, or all of the other's key.
-fn differ_in_record(rng: &mut Rng, request: &Draft, result: &mut Draft) {
+pub(super) fn differ_in_record(rng: &mut Rng, request: &Draft, result: &mut Draft) {
     if result.bodies.is_empty() {
         return;
     }
@@ -133,7 +133,7 @@ fn differ_in_record(rng: &mut Rng, request: &Draft, result: &mut Draft) {
 }
 
 /// A result record for nobody's request, or the same one twice.
-fn another_record(rng: &mut Rng, request: &Draft, result: &mut Draft) {
+pub(super) fn another_record(rng: &mut Rng, request: &Draft, result: &mut Draft) {
     let mut stranger = if !request.bodies.is_empty() && rng.once_in(2) {
         rng.pick(&request.bodies)
     } else if request.kind.is_debit() {

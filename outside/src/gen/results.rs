@@ -15,15 +15,20 @@ pub fn result_of(rng: &mut Rng, request: &Draft, fair: bool) -> Draft {
     result.mac = free_text(rng, 10);
     result.bodies = some_of(rng, &request.bodies);
     for body in &mut result.bodies {
-        let place = body_item(result.kind, result.kind.result_item());
-        let marked = good_result(rng, result.kind);
-        body[place].copy_from_slice(&marked);
-        if result.kind.is_debit() {
-            let fair = fair || rng.once_in(2);
-            answer_amount(rng, result.kind.least_won(), body, fair);
-        }
+        answer(rng, result.kind, body, fair);
     }
     result
+}
+
+/// Makes of the body of a request that of a result.
+pub(super) fn answer(rng: &mut Rng, kind: Kind, body: &mut [u8], fair: bool) {
+    let place = body_item(kind, kind.result_item());
+    let marked = good_result(rng, kind);
+    body[place].copy_from_slice(&marked);
+    if kind.is_debit() {
+        let fair = fair || rng.once_in(2);
+        answer_amount(rng, kind.least_won(), body, fair);
+    }
 }
 
 /// A part of a list, mostly in another order.

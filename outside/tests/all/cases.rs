@@ -1,9 +1,48 @@
 //! What the lists of edge cases share: their columns, how bytes are written in them, and files of every kind.
 
 use super::common::put;
+use outside::bridge::{Breach, Call, Said};
 use outside::gen::Draft;
 use outside::layout::{Family, Kind};
 use outside::model::code_number;
+
+/// A case of a list, and how each of the two is held to it.
+pub trait Listed {
+    /// What it is called in a failure.
+    fn title(&self) -> String;
+    /// What the list says must come of it.
+    fn expected(&self) -> Said;
+    /// What the reference says.
+    fn reference(&self) -> Said;
+    /// The same asked of the library.
+    fn call(&self) -> Call;
+    /// What was said, in words.
+    fn in_words(&self, said: &Result<Said, Breach>) -> String;
+}
+
+/// The tests that every list has, of its cases and its lines: the reference and the library answer as it says, and no two
+/// cases have one name.
+macro_rules! tests_of_a_list {
+    ($cases:expr, $lines:expr) => {
+        #[test]
+        fn the_reference_answers_as_listed() {
+            let of = |case: &Case| (case.title(), case.expected(), Ok(case.reference()));
+            $crate::common::held_to_a_list("the reference", $cases, of, Case::in_words);
+        }
+
+        #[test]
+        fn the_library_answers_as_listed() {
+            let of = |case: &Case| (case.title(), case.expected(), outside::bridge::ask(&case.call()));
+            $crate::common::held_to_a_list("the library", $cases, of, Case::in_words);
+        }
+
+        #[test]
+        fn no_two_cases_have_one_name() {
+            $crate::common::names_differ($lines.into_iter().map(|[name, ..]| name));
+        }
+    };
+}
+pub(super) use tests_of_a_list;
 
 /// Bytes that no file has where it is filled.
 pub const UNWRITTEN: u8 = 0xc3;

@@ -114,8 +114,9 @@ pub fn held_to_a_list<C>(
     of: impl Fn(&C) -> (String, Said, Result<Said, Breach>),
     in_words: fn(&C, &Result<Said, Breach>) -> String,
 ) {
-    let mut differing = String::new();
+    let (mut count, mut differing) = (0, String::new());
     for case in cases {
+        count += 1;
         let (name, listed, said) = of(&case);
         let listed = Ok(listed);
         if said != listed {
@@ -123,6 +124,8 @@ pub fn held_to_a_list<C>(
             differing += &format!("{name}\n  the list: {listed}\n  {who}: {said}\n");
         }
     }
+    println!("{count} cases");
+    assert!(count > 0, "the list has no cases");
     assert!(differing.is_empty(), "answered in another way:\n{differing}");
 }
 

@@ -3,11 +3,11 @@
 
 use super::cases::{
     self, answer as answer_of, bytes, change, draft, enrolment_by_bank, filled, number, parted, repeated,
-    sides, UNWRITTEN,
+    sides, tests_of_a_list, Listed, UNWRITTEN,
 };
 use super::changes::{check_eb12, ACCOUNT, BRANCH, IN_RECORD, OFFICE};
-use super::common::{held_to_a_list, names_differ, proved_shown, proved_shown_with_room, put};
-use outside::bridge::{ask, Breach, Call, Said};
+use super::common::{proved_shown, proved_shown_with_room, put};
+use outside::bridge::{Breach, Call, Said};
 use outside::coverage::{Counter, Operation, Part};
 use outside::gen::Draft;
 use outside::layout::Kind;
@@ -143,15 +143,6 @@ fn eb12_of(eb11: &[u8], column: &str) -> Vec<u8> {
 
 // ----------------------------------------------------------------- answers
 
-/// What the list says must come of a case.
-fn expected(case: &Case) -> Said {
-    let said = Said::new(case.answer[1]);
-    match &case.asked {
-        Asked::Read => said.numbers(&case.answer),
-        Asked::Answer { after, .. } => said.bytes(after).numbers(&case.answer),
-    }
-}
-
 fn told(case: &Case) -> (Answer, Said) {
     match &case.asked {
         Asked::Read => {
@@ -166,42 +157,39 @@ fn told(case: &Case) -> (Answer, Said) {
     }
 }
 
-/// The same asked of the library.
-fn call(case: &Case) -> Call {
-    match &case.asked {
-        Asked::Read => Call::read(Kind::EB11.number(), &case.eb11),
-        Asked::Answer { answers, room, .. } => Call::write_eb12(&case.eb11, answers, room),
+impl Listed for Case {
+    fn title(&self) -> String {
+        self.name.to_string()
+    }
+
+    fn expected(&self) -> Said {
+        let said = Said::new(self.answer[1]);
+        match &self.asked {
+            Asked::Read => said.numbers(&self.answer),
+            Asked::Answer { after, .. } => said.bytes(after).numbers(&self.answer),
+        }
+    }
+
+    fn reference(&self) -> Said {
+        told(self).1
+    }
+
+    fn call(&self) -> Call {
+        match &self.asked {
+            Asked::Read => Call::read(Kind::EB11.number(), &self.eb11),
+            Asked::Answer { answers, room, .. } => Call::write_eb12(&self.eb11, answers, room),
+        }
+    }
+
+    fn in_words(&self, said: &Result<Said, Breach>) -> String {
+        match &self.asked {
+            Asked::Read => proved_shown(said),
+            Asked::Answer { after, .. } => proved_shown_with_room(said, after),
+        }
     }
 }
 
-fn in_words(case: &Case, said: &Result<Said, Breach>) -> String {
-    match &case.asked {
-        Asked::Read => proved_shown(said),
-        Asked::Answer { after, .. } => proved_shown_with_room(said, after),
-    }
-}
-
-fn check(who: &str, says: impl Fn(&Case) -> Result<Said, Breach>) {
-    let count = lines().len();
-    println!("{count} cases");
-    assert!(count > 0, "the list has no cases");
-    held_to_a_list(who, cases(), |case| (case.name.to_string(), expected(case), says(case)), in_words);
-}
-
-#[test]
-fn the_reference_answers_as_listed() {
-    check("the reference", |case| Ok(told(case).1));
-}
-
-#[test]
-fn the_library_answers_as_listed() {
-    check("the library", |case| ask(&call(case)));
-}
-
-#[test]
-fn no_two_cases_have_one_name() {
-    names_differ(lines().into_iter().map(|[name, ..]| name));
-}
+tests_of_a_list!(cases(), lines());
 
 /// What the list says is written has the layout of an EB12.
 #[test]

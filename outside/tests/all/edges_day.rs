@@ -1,9 +1,10 @@
 //! The edge cases of day files: the reference and the proved library are each held to the answer of the list,
 //! `cases/day.txt`; and the list holds what it must.
 
+use super::cases::{tests_of_a_list, Listed};
 use super::cases_day::{cases, lines, Asked, Case};
-use super::common::{held_to_a_list, names_differ, proved_day_shown, refused_in, refused_in_parts};
-use outside::bridge::{ask, Breach, Call, Said};
+use super::common::{proved_day_shown, refused_in, refused_in_parts};
+use outside::bridge::{Breach, Call, Said};
 use outside::coverage::{Counter, Operation};
 use outside::coverage_day::{DayEntry, DayOperation, Told};
 use outside::day::layout::KINDS;
@@ -11,80 +12,66 @@ use outside::gen::DayWriteInput;
 use outside::proved::DayParts;
 use outside::{day_body, day_read, day_write, eight_of_day, ten_of_body, Answer, DayAnswer};
 
-/// What the list says must come of a case.
-fn expected(case: &Case) -> Said {
-    let said = Said::new(case.answer[0]);
-    match &case.asked {
-        Asked::Write { given, file } => {
-            let mut after = given.room.clone();
-            if case.answer[0] == 0 {
-                after[..file.len()].copy_from_slice(file);
+impl Listed for Case {
+    fn title(&self) -> String {
+        self.name.to_string()
+    }
+
+    fn expected(&self) -> Said {
+        let said = Said::new(self.answer[0]);
+        match &self.asked {
+            Asked::Write { given, file } => {
+                let mut after = given.room.clone();
+                if self.answer[0] == 0 {
+                    after[..file.len()].copy_from_slice(file);
+                }
+                said.bytes(&after).numbers(&self.answer)
             }
-            said.bytes(&after).numbers(&case.answer)
+            _ => said.numbers(&self.answer),
         }
-        _ => said.numbers(&case.answer),
+    }
+
+    fn reference(&self) -> Said {
+        match &self.asked {
+            Asked::Read { file } => {
+                let (told, n) = day_read(file);
+                Said::new(told.number).numbers(&eight_of_day(&told, n))
+            }
+            Asked::Body { file, which } => {
+                let (told, body) = day_body(file, *which);
+                Said::new(told.number).numbers(&ten_of_body(&told, &body))
+            }
+            Asked::Write { given, .. } => {
+                let DayWriteInput { names, lengths, bodies, room } = given;
+                let mut room = room.clone();
+                let (told, length) = day_write(names, lengths, bodies, &mut room);
+                Said::new(told.number).bytes(&room).numbers(&eight_of_day(&told, length))
+            }
+        }
+    }
+
+    fn call(&self) -> Call {
+        match &self.asked {
+            Asked::Read { file } => Call::day_read(file),
+            Asked::Body { file, which } => Call::day_body(file, *which),
+            Asked::Write { given: DayWriteInput { names, lengths, bodies, room }, .. } => {
+                Call::day_write(&DayParts { names, lengths, bodies }, room)
+            }
+        }
+    }
+
+    /// Of a room only whether it is the list's.
+    fn in_words(&self, said: &Result<Said, Breach>) -> String {
+        match &self.asked {
+            Asked::Write { given, .. } => {
+                proved_day_shown(said, Some(&self.expected().written[..given.room.len()]))
+            }
+            _ => proved_day_shown(said, None),
+        }
     }
 }
 
-/// What the reference says.
-fn reference(case: &Case) -> Said {
-    match &case.asked {
-        Asked::Read { file } => {
-            let (told, n) = day_read(file);
-            Said::new(told.number).numbers(&eight_of_day(&told, n))
-        }
-        Asked::Body { file, which } => {
-            let (told, body) = day_body(file, *which);
-            Said::new(told.number).numbers(&ten_of_body(&told, &body))
-        }
-        Asked::Write { given, .. } => {
-            let DayWriteInput { names, lengths, bodies, room } = given;
-            let mut room = room.clone();
-            let (told, length) = day_write(names, lengths, bodies, &mut room);
-            Said::new(told.number).bytes(&room).numbers(&eight_of_day(&told, length))
-        }
-    }
-}
-
-/// The same asked of the library.
-fn call(case: &Case) -> Call {
-    match &case.asked {
-        Asked::Read { file } => Call::day_read(file),
-        Asked::Body { file, which } => Call::day_body(file, *which),
-        Asked::Write { given: DayWriteInput { names, lengths, bodies, room }, .. } => {
-            Call::day_write(&DayParts { names, lengths, bodies }, room)
-        }
-    }
-}
-
-/// What was said, in words; of a room only whether it is the list's.
-fn in_words(case: &Case, said: &Result<Said, Breach>) -> String {
-    match &case.asked {
-        Asked::Write { given, .. } => {
-            proved_day_shown(said, Some(&expected(case).written[..given.room.len()]))
-        }
-        _ => proved_day_shown(said, None),
-    }
-}
-
-fn check(who: &str, says: impl Fn(&Case) -> Result<Said, Breach>) {
-    held_to_a_list(who, cases(), |case| (case.name.to_string(), expected(case), says(case)), in_words);
-}
-
-#[test]
-fn the_reference_answers_as_listed() {
-    check("the reference", |case| Ok(reference(case)));
-}
-
-#[test]
-fn the_library_answers_as_listed() {
-    check("the library", |case| ask(&call(case)));
-}
-
-#[test]
-fn no_two_cases_have_one_name() {
-    names_differ(lines().into_iter().map(|[name, ..]| name));
-}
+tests_of_a_list!(cases(), lines());
 
 /// The answer of the list.
 fn told(case: &Case) -> DayAnswer {

@@ -1,9 +1,10 @@
 //! The edge cases of consent evidence: the reference and the proved library are each held to the answer of the list,
 //! `cases/evidence.txt`; and the list holds what it must.
 
+use super::cases::{tests_of_a_list, Listed};
 use super::cases_evidence::{cases, lines, Asked, Case};
-use super::common::{held_to_a_list, names_differ, proved_shown, proved_shown_with_room};
-use outside::bridge::{ask, Breach, Call, Said};
+use super::common::{proved_shown, proved_shown_with_room};
+use outside::bridge::{Breach, Call, Said};
 use outside::coverage::{Counter, Operation};
 use outside::evidence::layout::{Profile, KINDS};
 use outside::gen;
@@ -11,86 +12,75 @@ use outside::proved::EvidenceParts;
 use outside::{eight_of_part, evidence_compare, evidence_part, evidence_read, evidence_write, six, Answer};
 use std::collections::HashSet;
 
-/// What the list says must come of a case.
-fn expected(case: &Case) -> Said {
-    let said = Said::new(case.answer[1]);
-    match &case.asked {
-        Asked::Write { room, file, .. } => {
-            let mut after = room.clone();
-            if case.answer[1] == 0 {
-                after[..file.len()].copy_from_slice(file);
+impl Listed for Case {
+    fn title(&self) -> String {
+        format!("{}, profile {}", self.name, self.profile)
+    }
+
+    fn expected(&self) -> Said {
+        let said = Said::new(self.answer[1]);
+        match &self.asked {
+            Asked::Write { room, file, .. } => {
+                let mut after = room.clone();
+                if self.answer[1] == 0 {
+                    after[..file.len()].copy_from_slice(file);
+                }
+                said.bytes(&after).numbers(&self.answer)
             }
-            said.bytes(&after).numbers(&case.answer)
+            _ => said.numbers(&self.answer),
         }
-        _ => said.numbers(&case.answer),
+    }
+
+    fn reference(&self) -> Said {
+        let said = |told: Answer, numbers: &[u64]| Said::new(told.number).numbers(numbers);
+        let profile = self.profile;
+        match &self.asked {
+            Asked::Read { file } => {
+                let told = evidence_read(profile, file);
+                said(told, &told.five())
+            }
+            Asked::Part { file, record } => {
+                let (told, part) = evidence_part(profile, file, *record);
+                said(told, &eight_of_part(&told, &part))
+            }
+            Asked::Write { date, code, records, room, .. } => {
+                let mut room = room.clone();
+                let (told, length) = evidence_write(profile, date, code, records, &mut room);
+                Said::new(told.number).bytes(&room).numbers(&six(&told, length))
+            }
+            Asked::Compare { enrolments, evidence } => {
+                let told = evidence_compare(profile, enrolments, evidence);
+                said(told, &told.five())
+            }
+        }
+    }
+
+    fn call(&self) -> Call {
+        let profile = self.profile;
+        match &self.asked {
+            Asked::Read { file } => Call::evidence_read(profile, file),
+            Asked::Part { file, record } => Call::evidence_part(profile, file, *record),
+            Asked::Write { date, code, records, room, .. } => {
+                Call::evidence_write(profile, &EvidenceParts { date, code, records }, room)
+            }
+            Asked::Compare { enrolments, evidence } => {
+                Call::evidence_compare(profile, enrolments, evidence)
+            }
+        }
+    }
+
+    /// Of a room only whether it is the list's.
+    fn in_words(&self, said: &Result<Said, Breach>) -> String {
+        match &self.asked {
+            Asked::Write { room, .. } => {
+                proved_shown_with_room(said, &self.expected().written[..room.len()])
+            }
+            _ => proved_shown(said),
+        }
     }
 }
 
-/// What the reference says.
-fn reference(case: &Case) -> Said {
-    let said = |told: Answer, numbers: &[u64]| Said::new(told.number).numbers(numbers);
-    let profile = case.profile;
-    match &case.asked {
-        Asked::Read { file } => {
-            let told = evidence_read(profile, file);
-            said(told, &told.five())
-        }
-        Asked::Part { file, record } => {
-            let (told, part) = evidence_part(profile, file, *record);
-            said(told, &eight_of_part(&told, &part))
-        }
-        Asked::Write { date, code, records, room, .. } => {
-            let mut room = room.clone();
-            let (told, length) = evidence_write(profile, date, code, records, &mut room);
-            Said::new(told.number).bytes(&room).numbers(&six(&told, length))
-        }
-        Asked::Compare { enrolments, evidence } => {
-            let told = evidence_compare(profile, enrolments, evidence);
-            said(told, &told.five())
-        }
-    }
-}
-
-/// The same asked of the library.
-fn call(case: &Case) -> Call {
-    let profile = case.profile;
-    match &case.asked {
-        Asked::Read { file } => Call::evidence_read(profile, file),
-        Asked::Part { file, record } => Call::evidence_part(profile, file, *record),
-        Asked::Write { date, code, records, room, .. } => {
-            Call::evidence_write(profile, &EvidenceParts { date, code, records }, room)
-        }
-        Asked::Compare { enrolments, evidence } => Call::evidence_compare(profile, enrolments, evidence),
-    }
-}
-
-/// What was said, in words; of a room only whether it is the list's.
-fn in_words(case: &Case, said: &Result<Said, Breach>) -> String {
-    match &case.asked {
-        Asked::Write { room, .. } => proved_shown_with_room(said, &expected(case).written[..room.len()]),
-        _ => proved_shown(said),
-    }
-}
-
-fn check(who: &str, says: impl Fn(&Case) -> Result<Said, Breach>) {
-    let named = |case: &Case| format!("{}, profile {}", case.name, case.profile);
-    held_to_a_list(who, cases(), |case| (named(case), expected(case), says(case)), in_words);
-}
-
-#[test]
-fn the_reference_answers_as_listed() {
-    check("the reference", |case| Ok(reference(case)));
-}
-
-#[test]
-fn the_library_answers_as_listed() {
-    check("the library", |case| ask(&call(case)));
-}
-
-#[test]
-fn no_two_cases_have_one_name() {
-    names_differ(lines().into_iter().map(|[name, ..]| name));
-}
+tests_of_a_list!(cases(), lines());
 
 fn operation(case: &Case) -> Operation {
     let profile = Profile::of(case.profile);

@@ -1618,7 +1618,11 @@ struct Run {
 fn generated_inputs() {
     let (seed, count) = (settings::seed(), settings::count(100_000));
     let counter = Counter::of(|one| {
-        !one.is_of_evidence() && !one.is_of_arrival() && !one.is_of_the_board() && !one.is_of_changes()
+        !one.is_of_evidence()
+            && !one.is_of_arrival()
+            && !one.is_of_the_board()
+            && !one.is_of_changes()
+            && !one.is_of_two_results()
     });
     let mut run = Run { rng: Rng::new(seed), counter, seen: Seen::default() };
     for input in 0..count {

@@ -6,7 +6,7 @@ use outside::layout::{is_centre_code, Kind};
 use outside::model::code_number;
 use outside::{
     day_body, day_read, eight_of_day, eight_of_part, evidence_compare, evidence_part, evidence_read, gen,
-    pair, proved, read, six, ten_of_body, write_eb12, EvidencePart,
+    pair, proved, read, seven, six, ten_of_body, two_results, write_eb12, EvidencePart,
 };
 use std::ffi::OsString;
 use std::path::{Path, PathBuf};
@@ -30,6 +30,8 @@ enum Files {
     Consent(Vec<u8>, Vec<u8>),
     Day(Vec<u8>),
     Answered(AnsweredFiles),
+    /// A request and two results.
+    TwoResults([Vec<u8>; 3]),
 }
 
 /// An EB11, the words that it is answered with, and the EB12 where it is not refused.
@@ -58,6 +60,7 @@ impl Files {
                 [eb11, answers.as_bytes()].into_iter().chain(eb12.as_deref()).collect()
             }
             Files::One(file) | Files::Evidence(file) | Files::Day(file) => vec![file],
+            Files::TwoResults(files) => files.iter().map(|file| &file[..]).collect(),
             Files::Pair(one, other) | Files::Consent(one, other) => vec![one, other],
         }
     }
@@ -110,6 +113,7 @@ fn sample(text: &Path) -> Sample {
             answers: String::from_utf8(bytes("answers")).expect("words"),
             eb12: is_there("eb12").then(|| bytes("eb12")),
         }),
+        None if is_there("first") => Files::TwoResults(["request", "first", "second"].map(bytes)),
         None if is_there("file") => Files::One(bytes("file")),
         None => Files::Pair(bytes("request"), bytes("result")),
     };
@@ -204,6 +208,16 @@ fn answered_line(told: [u64; 6], room: &[u8], eb12: Option<&[u8]>) -> String {
     }
 }
 
+/// The line of two results.
+fn two_results_line(told: [u64; 7]) -> String {
+    let [five @ .., which, request] = told;
+    match (which, request) {
+        (0, 0) => "accepted same".to_string(),
+        (0, request) => format!("accepted differ {request}"),
+        (which, _) => format!("{} {}", refused(&five), if which == 1 { "first" } else { "second" }),
+    }
+}
+
 /// What the reference and the library say.
 fn said(sample: &Sample) -> [String; 2] {
     match &sample.files {
@@ -241,6 +255,11 @@ fn said(sample: &Sample) -> [String; 2] {
             let theirs = proved::write_eb12(&files.eb11, &answers, &mut other);
             let eb12 = files.eb12.as_deref();
             [answered_line(six(&told, length), &room, eb12), answered_line(theirs, &other, eb12)]
+        }
+        Files::TwoResults([request, first, second]) => {
+            let (told, compared) = two_results(sample.number, request, first, second);
+            let theirs = proved::two_results(sample.number, request, first, second);
+            [two_results_line(seven(&told, &compared)), two_results_line(theirs)]
         }
         Files::Consent(enrolments, evidence) => {
             let profile = sample.number;
@@ -292,7 +311,7 @@ fn the_samples_are_many_enough() {
         samples.iter().any(|sample| match sample.files {
             Files::One(..) => !pair && test(sample),
             Files::Pair(..) => pair && test(sample),
-            Files::Evidence(..) | Files::Consent(..) | Files::Day(..) | Files::Answered(..) => false,
+            _ => false,
         })
     };
     for kind in Kind::ALL {
@@ -370,7 +389,7 @@ fn the_samples_of_evidence_are_many_enough() {
         let of = |files: &Files| match files {
             Files::Evidence(..) => !compared,
             Files::Consent(..) => compared,
-            Files::One(..) | Files::Pair(..) | Files::Day(..) | Files::Answered(..) => false,
+            _ => false,
         };
         let found =
             samples.iter().any(|s| of(&s.files) && s.number == profile && s.expected.starts_with(start));
@@ -410,6 +429,31 @@ fn the_samples_of_changes_are_many_enough() {
     for sample in answered() {
         let Files::Answered(AnsweredFiles { eb12, .. }) = &sample.files else { continue };
         assert_eq!(eb12.is_some(), sample.expected.starts_with("accepted"), "{}", sample.name);
+    }
+}
+
+/// The same of two results: one story and two, each of the files refused, by itself or as they meet, and both sorts of debits.
+#[test]
+fn the_samples_of_two_results_are_many_enough() {
+    let samples = samples();
+    let mut told: Vec<String> = Vec::new();
+    for sample in samples.iter().filter(|sample| matches!(sample.files, Files::TwoResults(_))) {
+        let kind = sample.number.to_be_bytes();
+        told.push(format!("{} {}", kind.escape_ascii(), sample.expected));
+    }
+    for line in [
+        "EB21 accepted same",
+        "EB21 accepted differ 1",
+        "EB21 accepted differ 2",
+        "EB21 accepted differ 3",
+        "EC21 accepted same",
+        "EB21 refused 0 13 1 11 0000 first",
+        "EB21 refused 2 4 2 1 0081 second",
+        "EB21 refused 0 14 2 6 0000 second",
+        "EC21 refused 2 5 0 4 0000 second",
+        "EB13 refused 0 1 0 0 0000 first",
+    ] {
+        assert!(told.iter().any(|one| one == line), "no two results are told {line}");
     }
 }
 
@@ -594,6 +638,13 @@ fn words(sample: &Sample) -> Option<Vec<OsString>> {
             let answers = files.words().into_iter().map(OsString::from);
             Some(of("ANSWER", "eb11").into_iter().chain(answers).collect())
         }
+        Files::TwoResults(_) => {
+            let kind = sample.number.to_be_bytes();
+            let mut words: Vec<OsString> = vec!["TWO".into()];
+            words.extend(of(std::str::from_utf8(&kind).expect("letters"), "request"));
+            words.extend(["first", "second"].map(|ending| sample.path(ending).into()));
+            Some(words)
+        }
         Files::Day(_) => Some(of("DAY", "file").to_vec()),
         Files::Consent(..) if sample.number == ORDINARY => {
             Some([of("EB13", "enrolments"), of("EI13", "evidence")].concat())
@@ -641,6 +692,7 @@ fn printed(sample: &Sample) -> String {
     match &sample.files {
         Files::Pair(..) => return printed_board(sample),
         Files::Answered(AnsweredFiles { eb12, .. }) => return printed_eb12(eb12.as_deref().unwrap_or(b"")),
+        Files::TwoResults(_) => return format!("{}\n", sample.expected),
         _ => {}
     }
     let parts = sample.expected.split(' ').enumerate().skip(1);

@@ -1,7 +1,7 @@
 //! How much stack the library needs: every function of the C face, called on a painted stack with the largest inputs,
 //! good ones and ones whose fault is found last, touches no more than include/cms.h says.
 
-use super::{stack_arrival, stack_board, stack_changes, stack_day, stack_evidence};
+use super::{stack_arrival, stack_board, stack_changes, stack_day, stack_evidence, stack_two_results};
 use crate::common::put;
 use outside::bridge::{ask, Call};
 use outside::gen::{self, Draft, Rng};
@@ -218,6 +218,7 @@ fn all_cases() -> Vec<Case> {
         cases.extend(of_writing(pair.request(), &request));
         cases.extend(of_two_files(pair, &request, &result));
         cases.extend(stack_board::all_cases(pair, &request, &result));
+        cases.extend(stack_two_results::all_cases(pair, &request, &result));
     }
     let of_bank = gen::request_of(&mut rng, Kind::EB11, MOST_RECORDS);
     cases.extend(of_one_file(Kind::EB11, &of_bank));

@@ -10,6 +10,8 @@ mod changes;
 mod measures;
 #[cfg(target_arch = "x86_64")]
 mod passbook;
+#[cfg(target_arch = "x86_64")]
+mod two_results;
 
 fn main() {
     #[cfg(target_arch = "x86_64")]
@@ -18,6 +20,7 @@ fn main() {
         arrivals::print();
         boards::print();
         changes::print();
+        two_results::print();
         passbook::print();
     }
     #[cfg(not(target_arch = "x86_64"))]

@@ -52,7 +52,8 @@ use Rattle.payers.specs.declared.members.Member.{Member}
 use Rattle.payers.specs.declared.turns.Task.{Task}
 use Rattle.payers.specs.declared.turns.Place.{Place}
 use Rattle.payers.specs.declared.turns.Turned.{Turned}
-use Rattle.payers.specs.Members.{nobody, numberIn}
+use Rattle.laws.specs.Least.{numberIn}
+use Rattle.payers.specs.Members.{nobody}
 use Rattle.payers.specs.Turns.{startOf, Asks, placeAfter, turnedMember, linksAfter, roomAfter, turnedTo}
 use Rattle.payers.proofs.members.Member as T
 use Rattle.payers.proofs.members.Member.Laws as T′

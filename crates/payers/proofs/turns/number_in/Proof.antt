@@ -1,5 +1,5 @@
 -- By whether there is such a member.
-use Rattle.payers.specs.Members.{numberIn}
+use Rattle.laws.specs.Least.{numberIn}
 use borrow.Author.Needs.{needs}
 use borrow.Author.Tests.{lt-ltb, le-ltb}
 use Rattle.payers.proofs.turns.number_in.Statement.{statement}
