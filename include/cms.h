@@ -17,8 +17,8 @@
  * are (00 to 16), for each its name (8 bytes) and its length (five digits), and then the bodies in that order, with nothing between
  * or behind them. No two names are the same, and each is item 4 of its body's header.
  *
- * Every function takes any number, any bytes and any length. All but cms_post and cms_part return the refusal's number, 0
- * when accepted, and store an answer. But for day files it begins with five numbers:
+ * Every function takes any number, any bytes and any length. All but cms_post, cms_part and cms_signed return the refusal's
+ * number, 0 when accepted, and store an answer. But for day files it begins with five numbers:
  *   answer[0] side    0 one file, or two as they meet; 1, 2 when the first or the second of two is refused by reading:
  *                     a request or its result, enrolments or their evidence
  *   answer[1] number  what was returned
@@ -39,12 +39,13 @@
  * its rule, 5 an item disagrees with the kind or header, 6 a count or sum is wrong, 7 the key of an earlier record, 8 lent
  * room is too short, 9 a part or an end after the end, 12 the headers of two files differ, 13 a result without a request or
  * with a copied item that differs, 14 an impossible amount, 15 no such request, 20 an enrolment without evidence, 21
- * evidence without an enrolment, 30 the form byte, the count, a length or the size of a day file's contents is wrong, 31
- * its bodies are not as long as the contents say, 32 the name of an earlier body, 33 a body is refused: as cms_read refuses
- * it, or with 1 where its name says no kind that goes in, or last with 5 at record 0, item 4, where its header has another
- * name, 40 the date of a pair is not later than the last one posted, 41 a payer is not on the board, 42 more was taken of a
- * payer than it owes, 43 the payer of an earlier member of the board, 50 a record with "CHNG" without its other half, 51 the
- * answers to an EB11 are not one for each record, or one is none, 52 only one half of a change is refused. */
+ * evidence without an enrolment, 22 evidence of kind "2" without the frame of signed data (cms_signed), 30 the form byte,
+ * the count, a length or the size of a day file's contents is wrong, 31 its bodies are not as long as the contents say, 32
+ * the name of an earlier body, 33 a body is refused: as cms_read refuses it, or with 1 where its name says no kind that goes
+ * in, or last with 5 at record 0, item 4, where its header has another name, 40 the date of a pair is not later than the
+ * last one posted, 41 a payer is not on the board, 42 more was taken of a payer than it owes, 43 the payer of an earlier
+ * member of the board, 50 a record with "CHNG" without its other half, 51 the answers to an EB11 are not one for each
+ * record, or one is none, 52 only one half of a change is refused. */
 #ifndef CMS_H
 #define CMS_H
 
@@ -70,8 +71,10 @@ extern "C" {
  * EC22 are held to no form, as before. No function changed its parameters. 8: cms_board_post and struct cms_member came, and
  * no other function changed. 9: the kind EB11 came, for cms_read, cms_walk and cms_end; before, it was 1, as it still is
  * everywhere else. And cms_write_eb12 came. No function changed its parameters. 10: cms_two_results came, and no other
- * function changed. */
-#define CMS_FACE 10
+ * function changed. 11: cms_signed came. And every function of consent evidence refuses a file, with 22 at item 13 of the
+ * first such record, in which evidence of kind "2" is not empty and has not the frame of signed data: after 7, and before 8
+ * and 12. Before, any bytes did, so files written before may be refused now. No function changed its parameters. */
+#define CMS_FACE 11
 
 #define CMS_EB11 UINT32_C(0x45423131)
 #define CMS_EB13 UINT32_C(0x45423133)
@@ -211,8 +214,18 @@ uint64_t cms_board_post(uint32_t pair, const uint8_t *request, size_t request_le
 uint64_t cms_write_eb12(const uint8_t *eb11, size_t eb11_length, const uint64_t *answers, size_t answers_length,
                         uint8_t *room, size_t room_length, uint64_t answer[6]);
 
+/* Whether the bytes have the frame of signed data, as a DER file has it: 1 when they have, else 0. There is no answer.
+ * A value is a tag of one byte, whose low five bits are not all ones, a definite length in the shortest form, and contents
+ * of that length; where the tag has bit hex 20 set, the contents are a list: values, one behind the other, or none. The
+ * bytes are one value, a sequence (tag hex 30), which holds exactly two: the object identifier 06 09 2A 86 48 86 F7 0D 01 07
+ * 02, and one with tag A0 that holds exactly one sequence. No value stands deeper than level 16, the outermost being level
+ * 1. Nothing else is asked: not what the contents mean, and not whether a signature is good. Any number of bytes may be
+ * given, and the time goes by that number. */
+uint64_t cms_signed(const uint8_t *bytes, size_t bytes_length);
+
 /* Reads a file of consent evidence, EI13: blocks of 1,024 bytes, of which the first is the header and the last the
- * trailer, and between them data records of as many blocks as their evidence wants. */
+ * trailer, and between them data records of as many blocks as their evidence wants. Last, evidence of kind "2" that is not
+ * empty has the frame of signed data: else it answers 22, at item 13 of the first record whose evidence has not. */
 uint64_t cms_evidence_read(uint32_t profile, const uint8_t *file, size_t file_length, uint64_t answer[5]);
 
 /* Where the evidence of one record lies in the file, by its record number 1 to n. On a file that is not accepted it
@@ -225,9 +238,10 @@ uint64_t cms_evidence_part(uint32_t profile, const uint8_t *file, size_t file_le
                            uint64_t answer[8]);
 
 /* Writes a file of consent evidence into the room, from the date (8 bytes), the institution code (10) and the records:
- * items 6 to 12 of a data record (74 bytes) and then its evidence, as long as item 12 says, record after record. On
- * success the first bytes of the room are the file, and those past it are unchanged. In a file, counted from 0, the date
- * stands at bytes 15 to 22, the code at 23 to 32, and items 6 to 12 in the 74 bytes before a part. After the five:
+ * items 6 to 12 of a data record (74 bytes) and then its evidence, as long as item 12 says, record after record. It
+ * answers 22 as in reading, after 7 and before 8. On success the first bytes of the room are the file, and those past it
+ * are unchanged. In a file, counted from 0, the date stands at bytes 15 to 22, the code at 23 to 32, and items 6 to 12 in
+ * the 74 bytes before a part. After the five:
  *   answer[5] length  of the file; 0 when refused */
 uint64_t cms_evidence_write(uint32_t profile, const uint8_t *date, size_t date_length, const uint8_t *code,
                             size_t code_length, const uint8_t *records, size_t records_length, uint8_t *room,
@@ -235,7 +249,8 @@ uint64_t cms_evidence_write(uint32_t profile, const uint8_t *date, size_t date_l
 
 /* Compares enrolments (EB13, side 1) with the evidence for them (EI13, side 2): each enrolment of kind "1" has one record
  * of evidence with its payer, bank, account and date, and each record of evidence has such an enrolment. The item of
- * number 12 is one of EB13; the record of number 20 is one of EB13, that of 21 one of EI13. */
+ * number 12 is one of EB13; the record of number 20 is one of EB13, that of 21 one of EI13. Both files are read before
+ * they meet, so 22 is told on side 2, and before 12. */
 uint64_t cms_evidence_compare(uint32_t profile, const uint8_t *enrolments, size_t enrolments_length,
                               const uint8_t *evidence, size_t evidence_length, uint64_t answer[5]);
 

@@ -21,14 +21,14 @@
 
 enum { READ, WRITE, PAIR, OUTCOME, WALK, POST, APART, TOUCH, DIG, PAINTED,
        EVIDENCE_READ, EVIDENCE_PART, EVIDENCE_WRITE, EVIDENCE_COMPARE,
-       DAY_READ, DAY_BODY, DAY_WRITE, PART, END, ARRIVE, BOARD_POST, WRITE_EB12, TWO_RESULTS };
+       DAY_READ, DAY_BODY, DAY_WRITE, PART, END, ARRIVE, BOARD_POST, WRITE_EB12, TWO_RESULTS, SIGNED };
 
 #define THERE UINT64_C(0x636d735f66616365)
 
 /* A multiple of the page sizes that are in use, also of an emulator's machine. */
 #define GUARD ((size_t)1 << 16)
-/* Multiples of that. A file of evidence has up to 4,196,352 bytes, and one that is too long is lent, too. */
-#define LONGEST ((size_t)5 << 20)
+/* Multiples of that. A length of a frame has four digits from 16,777,216 bytes on; no file is so long. */
+#define LONGEST ((size_t)17 << 20)
 #define STACK ((size_t)1 << 20)
 #define WATCHED ((size_t)64)
 #define MOST 8
@@ -228,6 +228,7 @@ static uint64_t call_board_post(void) {
 }
 static uint64_t call_write_eb12(void) { return cms_write_eb12(BYTES(0), LIST(1), BYTES(2), NUMBERS(3)); }
 static uint64_t call_two_results(void) { return cms_two_results(kind, BYTES(0), BYTES(1), BYTES(2), NUMBERS(3)); }
+static uint64_t call_signed(void) { return cms_signed(BYTES(0)); }
 
 /* A whole arrival with nothing lent anew on the way: parts of the file as long as the list says, each with what it returned
  * and the state behind it, and then the end. */
@@ -298,6 +299,7 @@ static function prepared(uint64_t which) {
     case BOARD_POST: slice(); slice(); board(); to_write(slice()); an_answer(5); return call_board_post;
     case WRITE_EB12: slice(); slice(); to_write(slice()); an_answer(6); return call_write_eb12;
     case TWO_RESULTS: slice(); slice(); slice(); an_answer(7); return call_two_results;
+    case SIGNED: slice(); return call_signed;
     case TOUCH: slice(); given = number(); also = number(); return call_touch;
     case DIG: given = number(); return call_dig;
     default: fail("the bridge was asked for a function that it does not know\n"); return NULL;

@@ -3,6 +3,7 @@
  * Of consent evidence it also prints where each lies, as record, first byte and length: example EI13 FILE
  * Of a day file it also prints where each body lies, as body, name, first byte and length: example DAY FILE
  * Compares enrolments with the evidence for them: example EB13 FILE EI13 FILE
+ * Asks one evidence, a DER file, for the frame of signed data, and prints yes or no: example SIGNED FILE
  * Posts a debit pair on a board of members, each a payer and the won owed, and prints the members as they are then, and the
  * dates last posted: example BOARD EB21 FILE FILE 2024000001 30000 2024000002 500
  * Answers an EB11, with yes or a code for each of its records, and prints the EB12, a line for each of its records:
@@ -98,6 +99,12 @@ static int compare(void) {
     return print_five(answer);
 }
 
+static int ask_signed(void) {
+    uint64_t yes = cms_signed(one.bytes, one.length);
+    puts(yes ? "yes" : "no");
+    return !yes;
+}
+
 static int read_day(void) {
     uint64_t answer[10];
     cms_day_body(one.bytes, one.length, 1, answer);
@@ -166,6 +173,7 @@ static int compare_results(const char *letters) {
 
 int main(int count, char **words) {
     if (count == 3 && strcmp(words[1], "DAY") == 0 && take(words[2], &one)) return read_day();
+    if (count == 3 && strcmp(words[1], "SIGNED") == 0 && take(words[2], &one)) return ask_signed();
     if (count == 4 && strcmp(words[1], "PARTS") == 0 && strlen(words[2]) == 4 && take(words[3], &one))
         return read_parts(words[2]);
     if (count == 3 && strlen(words[1]) == 4 && take(words[2], &one))
@@ -183,9 +191,9 @@ int main(int count, char **words) {
         take(words[4], &other) && take(words[5], &third))
         return compare_results(words[2]);
     fputs("usage: example KIND FILE, example PARTS KIND FILE, example DAY FILE, example EB13 FILE EI13 FILE,\n"
-          "example BOARD KIND FILE FILE and a payer and won for each member, example ANSWER FILE and yes or a code for\n"
-          "each record, or example TWO KIND FILE FILE FILE; files of no more than 4,098 KB that can be read, no more than 100\n"
-          "members and 430 answers\n",
+          "example SIGNED FILE, example BOARD KIND FILE FILE and a payer and won for each member, example ANSWER FILE and yes or\n"
+          "a code for each record, or example TWO KIND FILE FILE FILE; files of no more than 4,098 KB that can be read, no more\n"
+          "than 100 members and 430 answers\n",
           stderr);
     return 2;
 }

@@ -176,7 +176,7 @@ const DEBIT_HEADERS: Rows = "12@3 12@5 12@6 12@7";
 const ENROLMENT_RESULTS: Rows = "13@6 13@4 13@7 13@8 13@9 13@11 13@14";
 const DEBIT_RESULTS: Rows = "13@11 13@4 13@5 13@7 13@9 13@10 13@13 13@14 14@6 14@13";
 
-// Evidence; both profiles can give the same answers.
+// Evidence; both profiles can give the same answers, but that a partly exempt institution has no evidence to be signed.
 
 const EVIDENCE_HEADER: Rows = "1:0081 2:0081 3:0081 4:9998 5:0088 6:0088 7:0089 6@6";
 const EVIDENCE_DATA: Rows =
@@ -188,6 +188,8 @@ const EVIDENCE_TRAILER: Rows = "1:0081 2:0081 3:0081 4:0088 5:0088 6:0088 7:0089
 
 const EVIDENCE_WRITTEN_HEADER: Rows = "4:9998 5:0088";
 const EVIDENCE_WRITTEN_DATA: Rows = "6:0098 7:0088 8:0098 9:9998 10:0101 11:0102 12:0088 12:0103 7@6";
+
+const EVIDENCE_NOT_SIGNED: Rows = "22@13";
 
 // Enrolments beside their evidence.
 
@@ -314,26 +316,34 @@ impl List {
     fn evidence(&mut self, profile: Profile) {
         for operation in [Operation::EvidenceRead(profile), Operation::EvidencePart(profile)] {
             self.placeless(operation, 0, &[0]);
-            self.evidence_reading(operation, 0);
+            self.evidence_reading(operation, 0, profile);
         }
         let writing = Operation::EvidenceWrite(profile);
         self.placeless(writing, 0, &[0, 2, 3, 8]);
         self.rows(writing, 0, Part::Header, EVIDENCE_WRITTEN_HEADER);
         self.rows(writing, 0, Part::Data, EVIDENCE_WRITTEN_DATA);
+        self.not_signed(writing, 0, profile);
         let comparing = Operation::EvidenceCompare(profile);
         self.placeless(comparing, 0, &[0]);
         self.placeless(comparing, 1, &[2, 3]);
         self.reading(comparing, 1, Kind::EB13);
-        self.evidence_reading(comparing, 2);
+        self.evidence_reading(comparing, 2, profile);
         self.rows(comparing, 0, Part::Header, EVIDENCE_HEADERS);
         self.rows(comparing, 0, Part::Data, EVIDENCE_MISSING_OR_FOREIGN);
     }
 
-    fn evidence_reading(&mut self, operation: Operation, side: u64) {
+    fn evidence_reading(&mut self, operation: Operation, side: u64, profile: Profile) {
         self.placeless(operation, side, &[2, 3]);
         self.rows(operation, side, Part::Header, EVIDENCE_HEADER);
         self.rows(operation, side, Part::Data, EVIDENCE_DATA);
+        self.not_signed(operation, side, profile);
         self.rows(operation, side, Part::Trailer, EVIDENCE_TRAILER);
+    }
+
+    fn not_signed(&mut self, operation: Operation, side: u64, profile: Profile) {
+        if profile == Profile::Ordinary {
+            self.rows(operation, side, Part::Data, EVIDENCE_NOT_SIGNED);
+        }
     }
 
     /// What the two files and their meeting give, whoever asks.
@@ -393,7 +403,7 @@ pub fn entry(operation: Operation, answer: &Answer, n: u64) -> Entry {
         (4..=7 | 12..=14 | 40, 0) => Part::Header,
         // The first member repeats nobody.
         (43, 2..) if answer.record <= n => Part::Member,
-        (43, _) | (50 | 52, 0) => Part::Outside,
+        (43, _) | (22 | 50 | 52, 0) => Part::Outside,
         (_, record) if record <= n => Part::Data,
         (_, record) if record == n + 1 => Part::Trailer,
         _ => Part::Outside,

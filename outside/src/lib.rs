@@ -23,7 +23,8 @@
 //! * [`arrival`]: a file is read while it arrives, part by part;
 //! * [`board`]: a debit pair is posted on the members' board;
 //! * [`changes`]: an EB11 is answered with an EB12, and both halves of a change alike;
-//! * [`two_results`](mod@two_results): two results of one debit request are compared.
+//! * [`two_results`](mod@two_results): two results of one debit request are compared;
+//! * [`signed`]: whether bytes have the frame of signed data.
 //!
 //! For the comparison:
 //!
@@ -58,6 +59,7 @@ pub mod proved;
 pub mod read;
 pub mod settings;
 pub mod shrink;
+pub mod signed;
 pub mod two_results;
 pub mod walk;
 pub mod write;
@@ -75,6 +77,7 @@ pub use model::{
 pub use pair::{outcome, pair};
 pub use post::{post, post_into};
 pub use read::read;
+pub use signed::is_signed;
 pub use two_results::two_results;
 pub use walk::walk;
 pub use write::write;

@@ -106,6 +106,7 @@ extern "C" {
         second_length: usize,
         answer: *mut u64,
     ) -> u64;
+    fn cms_signed(bytes: *const u8, bytes_length: usize) -> u64;
 }
 
 pub fn read(kind: u32, file: &[u8]) -> [u64; 5] {
@@ -306,4 +307,9 @@ pub fn two_results(pair: u32, request: &[u8], first: &[u8], second: &[u8]) -> [u
         )
     };
     answer
+}
+
+pub fn signed(bytes: &[u8]) -> u64 {
+    // Safe: the pointer is good for the length that stands beside it, till the call returns.
+    unsafe { cms_signed(bytes.as_ptr(), bytes.len()) }
 }

@@ -53,6 +53,8 @@ const WRITE_EB12: Function =
 const TWO_RESULTS: Function =
     Function { number: 22, lent: &["the request", "the first result", "the second result", "the answer"] };
 
+const SIGNED: Function = Function { number: 23, lent: &["the bytes"] };
+
 /// What a file is written from.
 #[derive(Clone, Copy)]
 pub struct Parts<'a> {
@@ -173,6 +175,10 @@ impl Call {
 
     pub fn two_results(pair: u32, request: &[u8], first: &[u8], second: &[u8]) -> Call {
         Call::of(&TWO_RESULTS).number(pair.into()).slice(request).slice(first).slice(second).answer(7)
+    }
+
+    pub fn signed(bytes: &[u8]) -> Call {
+        Call::of(&SIGNED).slice(bytes)
     }
 }
 
@@ -323,6 +329,11 @@ pub fn write_eb12(eb11: &[u8], answers: &[u64], room: &mut [u8]) -> [u64; 6] {
 /// The answer of the proved comparison of two results: the five, then which of them is refused and which request is named.
 pub fn two_results(pair: u32, request: &[u8], first: &[u8], second: &[u8]) -> [u64; 7] {
     kept(ask(&Call::two_results(pair, request, first, second)).and_then(|said| told(&said)))
+}
+
+/// What the proved library returns for bytes that may be signed data: 1 where they have its frame.
+pub fn signed(bytes: &[u8]) -> u64 {
+    kept(ask(&Call::signed(bytes))).returned
 }
 
 /// How many bytes of a member go through the bridge.

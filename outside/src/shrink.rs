@@ -166,6 +166,17 @@ mod tests {
     }
 
     #[test]
+    fn one_record_without_a_frame_is_found() {
+        let mut draft = evidence_of(&mut Rng::new(3), Profile::Ordinary, 40);
+        draft.records[17].put(10, b"2");
+        draft.records[17].put(11, b"der  ");
+        draft.records[17].put_evidence(b"\xff\xd8\xff\xe0".to_vec());
+        let smallest = shrink_evidence(&draft.file(), |file| evidence_read(0, file).number == 22);
+        assert_eq!(smallest.len(), 3 * BLOCK);
+        assert_eq!(&smallest[BLOCK + 119..BLOCK + 123], b"\xff\xd8\xff\xe0");
+    }
+
+    #[test]
     fn one_record_of_one_body_is_found() {
         let mut rng = Rng::new(3);
         let mut day = day_of(&mut rng, 9);

@@ -30,6 +30,7 @@ use Rattle.cms.proofs.of_evidence.cms_evidence_read.Reads as evidence-r
 use Rattle.cms.proofs.of_evidence.cms_evidence_part.Reads as evidence-part
 use Rattle.cms.proofs.of_evidence.cms_evidence_write.Reads as evidence-write
 use Rattle.cms.proofs.of_evidence.cms_evidence_compare.Reads as evidence-compare
+use Rattle.cms.proofs.of_evidence.cms_signed.Reads as signed
 use Rattle.cms.proofs.of_days.cms_day_read.Reads as day-read
 use Rattle.cms.proofs.of_days.cms_day_body.Reads as day-body
 use Rattle.cms.proofs.of_days.cms_day_write.Reads as day-write
@@ -110,6 +111,9 @@ evidence-write-alike = alike evidence-write.Post _ _ (λ κ x r s p. p .0 with p
 
 pub evidence-compare-alike : Alike evidence-compare.Post (λ κ r s. sees r (now (s .1 .1 .1 .0) ∷ []))
 evidence-compare-alike = alike evidence-compare.Post _ _ (λ κ x r s p. p .0 with p .1 also end)
+
+pub signed-alike : Alike signed.Post (λ κ r s. sees r [])
+signed-alike = alike signed.Post _ _ (λ κ x r s p. p with end)
 
 pub day-read-alike : Alike day-read.Post (λ κ r s. sees r (now (s .1 .0) ∷ []))
 day-read-alike = alike day-read.Post _ _ (λ κ x r s p. p .0 with p .1 also end)

@@ -1,2 +1,3 @@
 -- The face for C.
 pub mod Profiles
+pub mod Yes

@@ -5,15 +5,22 @@ ghost use Rattle.evidence.specs.Reading.{readOf};
 ghost use Rattle.evidence.specs.Lying.{partOf};
 ghost use Rattle.evidence_writer.specs.Writing.{writeOf, writeAfter};
 ghost use Rattle.consent.specs.Comparing.{compareOf};
+ghost use Rattle.signed.specs.Checking.{isSigned};
 ghost use Rattle.telling.specs.Numbers.{five, six, eightFor};
 ghost use Rattle.cms.specs.Profiles.{isExempt};
+ghost use Rattle.cms.specs.Yes.{yesOf};
 use consent::comparing;
 use evidence::lying;
 use evidence::reading;
 use evidence_writer::writing;
+use signed::frames;
 use telling::answer::tell;
 use telling::answer::tell_stored;
 use telling::part::tell_part;
+
+const YES: u64 = 1;
+
+const NO: u64 = 0;
 
 // Reads the file as one of evidence. Returns the refusal's number, 0 when accepted.
 #[no_mangle]
@@ -71,4 +78,15 @@ pub extern "C" fn cms_evidence_compare(
 {
     let told = comparing::compare(profile != 0, enrolments, evidence);
     tell(told, answer)
+}
+
+// Whether bytes of every sort have the frame of signed evidence. Returns 1 where they have, else 0.
+#[no_mangle]
+pub extern "C" fn cms_signed(bytes: &[u8]) -> u64
+    ensures { λ r. ⌜ r ≡ yesOf (isSigned (now (bytes .entry))) ⌝ }
+{
+    if frames::is_signed(bytes) {
+        return YES;
+    }
+    NO
 }

@@ -1,6 +1,6 @@
 -- A file is accepted exactly when it is a header, records and a trailer that meet every rule.
 -- Assumes nothing.
-use Prim.Native.Nat.{ℕ, zero, suc, _+_, _-_, _*_, _≤_, _<_}
+use Prim.Native.Nat.{ℕ, zero, suc, _+_, _*_, _≤_, _<_}
 use mathlib.Core.Bool.{Bool}
 use mathlib.Core.List.{List, _++_, append-assoc, append-nil}
 use mathlib.Core.Path.{_≡_, refl, sym, _∙_, ap}
@@ -20,7 +20,8 @@ use Rattle.laws.proofs.Parts.{part-length, part-at, part-part, drop-part}
 use Rattle.laws.proofs.Joins.{joined-split}
 use Rattle.numbers.specs.Numbers.{valueOf}
 use Rattle.answers.specs.Answers.{accepted}
-use Rattle.evidence.specs.Blocks.{block, front, blocksFor, blocksIn, lastBlock, dataBlocks, blockAt, lengthAt, kindAt, nextOf, startOf, atEnd, recordsIn}
+use Rattle.evidence_units.specs.Frames.{SignedIf}
+use Rattle.evidence.specs.Blocks.{block, front, blocksFor, blocksIn, lastBlock, dataBlocks, blockAt, lengthAt, kindAt, nextOf, startOf, atEnd, recordsIn, evidenceIn}
 use Rattle.evidence.specs.Judged.{fillerAt, byteOf}
 use Rattle.evidence.specs.Reading.{keyOf, readOf}
 use Rattle.evidence.specs.Meets.{evidenceOf, blocksOf, blocksTo, Fits, Composed, Meets}
@@ -49,6 +50,9 @@ module _ (s : List ℕ) (b k : ℕ) (some : 0 < k) (fits : b * block + k * block
   entry-filler e =
       rw (← e)
       (drop-part (front + lengthAt s b) (b * block) (k * block) s (omega (arith, blocks-enough (lengthAt s b), e)) fits)
+
+  entry-evidence : k ≡ blocksFor (lengthAt s b) → part front (lengthAt s b) (part (b * block) (k * block) s) ≡ part (b * block + front) (lengthAt s b) s
+  entry-evidence e = part-part front (lengthAt s b) (b * block) (k * block) s (omega (arith, blocks-enough (lengthAt s b), e)) fits
 
   -- it fits exactly when it is good where it begins
   entry-fits :
@@ -117,6 +121,14 @@ module _ (exempt : Bool) (s : List ℕ) (m : Stages exempt s) where
   unfolding entryOf keyOf byteOf
   entry-key i h = entry-part s (startOf s i) (blocksFor (lengthAt s (startOf s i))) (blocks-some (lengthAt s (startOf s i))) (entry-inside i h) 45 61 (omega arith)
 
+  entry-signed : (i : ℕ) → i < recordsIn s → SignedIf (getD (entryOf s i) 106 0) (part front (evidenceOf (entryOf s i)) (entryOf s i))
+  unfolding entryOf evidenceIn
+  entry-signed i h =
+      let b = startOf s i in
+      let k = blocksFor (lengthAt s b) in
+      let some = blocks-some (lengthAt s b) in
+      rw (entry-kind s b k some (entry-inside i h), entry-length s b k some (entry-inside i h), entry-evidence s b k some (entry-inside i h) refl) (m .signed i h)
+
   -- the records are the data blocks, and the trailer is what is left
   data-blocks : blocksTo (entryOf s) (recordsIn s) ≡ dataBlocks s
   data-blocks =
@@ -153,6 +165,7 @@ module _ (exempt : Bool) (s : List ℕ) (m : Stages exempt s) where
       trailer-count = m .counts .trailer;
       trailer-blocks = rw data-blocks (m .counts .blocks);
       keys = λ i j a b e. m .keys i j a b (sym (entry-key i a) ∙ (e ∙ entry-key j b));
+      signed = entry-signed;
     };
   }
     where
@@ -249,6 +262,17 @@ module _ (exempt : Bool) (s header trailer : List ℕ) (n : ℕ) (entry : ℕ �
       rw (starts i (omega arith))
       (sym (entry-part s (1 + blocksTo entry i) (blocksOf (entry i)) (blocks-some (evidenceOf (entry i))) (room i h) 45 61 (omega arith)) ∙ ap (part 45 61) (stands i h))
 
+  signed-is : (i : ℕ) → i < n → SignedIf (kindAt s (startOf s i)) (evidenceIn s i)
+  unfolding evidenceIn
+  signed-is i h =
+      let b = 1 + blocksTo entry i in
+      let k = blocksOf (entry i) in
+      let some = blocks-some (evidenceOf (entry i)) in
+      let kind : getD (entry i) 106 0 ≡ kindAt s b = ap (λ (r : List ℕ). getD r 106 0) (sym (stands i h)) ∙ entry-kind s b k some (room i h) in
+      let evidence : part front (evidenceOf (entry i)) (entry i) ≡ part (b * block + front) (lengthAt s b) s =
+      rw (← stands-says i h) (ap (part front (lengthAt s b)) (sym (stands i h)) ∙ entry-evidence s b k some (room i h) (ap blocksFor (sym (stands-says i h)))) in
+      rw (starts i (omega arith), ← kind, ← evidence) (m .signed i h)
+
   -- so a file that is composed so is good at each stage
   composed-stages : Stages exempt s
   composed-stages = record {
@@ -263,6 +287,7 @@ module _ (exempt : Bool) (s header trailer : List ℕ) (n : ℕ) (entry : ℕ �
       blocks = rw (data-are, ← last-is) (m .trailer-blocks);
     };
     keys = rw counted (λ i j a b e. m .keys i j a b (sym (key-is i a) ∙ (e ∙ key-is j b)));
+    signed = rw counted signed-is;
   }
     where
       data-are : dataBlocks s ≡ blocksTo entry n

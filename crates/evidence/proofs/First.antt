@@ -20,21 +20,23 @@ use Rattle.tables.specs.declared.row.Row.{Row}
 use Rattle.tables.specs.Rows.{blank}
 use Rattle.answers.specs.declared.told.Answer.{Answer}
 use Rattle.answers.specs.Answers.{accepted, refused, refusedAt, refuses, firstTold, _then_}
-use Rattle.answers.proofs.Refusals.{tested, number-of, refuses-zero, refuses-other, then-first, then-second, told, First}
+use Rattle.answers.proofs.Refusals.{tested, number-of, refuses-zero, refuses-other, then-first, then-second, told, Good, First}
 use Rattle.evidence_rows.specs.Tables.{headerRows, dataRows, trailerRows}
 use Rattle.layout.specs.Rules.{holds}
 use Rattle.layout.specs.Judging.{brokenAt, rowTells, judgeBy}
 use Rattle.layout.proofs.Judged.{row-good, row-bad, row-holds, judge-exact}
-use Rattle.keys.specs.Keys.{repeatsIn}
+use Rattle.keys.specs.Keys.{repeatsIn, Distinct}
 use Rattle.keys.proofs.Distinct.{distinct-if}
-use Rattle.evidence.specs.Blocks.{block, front, mostBlocks, blocksIn, lastBlock, blockAt, lengthAt, kindAt, nextOf, startOf, recordsIn}
-use Rattle.evidence.specs.Judged.{noOwn, lengthGood, headerTold, itemsTold, lengthTold, fillerAt, fillerTold, blockTold, recordTold, recordsTold, trailerTold}
-use Rattle.evidence.specs.Reading.{isWhole, sizeTold, countTold, countsTold, keyOf, keysTold, readOf}
+use Rattle.evidence_units.specs.Frames.{SignedIf, frameTold, framesTold}
+use Rattle.evidence_units.proofs.Framed.{frame-good, good-frame, bad-frame}
+use Rattle.evidence.specs.Blocks.{block, front, mostBlocks, blocksIn, lastBlock, blockAt, lengthAt, kindAt, nextOf, startOf, recordsIn, evidenceIn}
+use Rattle.evidence.specs.Judged.{noOwn, lengthGood, headerTold, itemsTold, lengthTold, fillerAt, fillerTold, blockTold, recordTold, recordsTold, unitByte, trailerTold}
+use Rattle.evidence.specs.Reading.{isWhole, sizeTold, countTold, countsTold, keyOf, keysTold, signedTold, readOf}
 use Rattle.evidence.specs.Meets.{RowsHold}
 use Rattle.evidence.specs.Stages.{Sizes, Counts}
 use Rattle.evidence.specs.First.{Broken, Came, Met, Held, Closed, Says}
 use Rattle.evidence.proofs.Walks.{records-most}
-use Rattle.evidence.proofs.Stages.{size-good, header-exact, trailer-exact, counts-good, count-good, block-good, records-good, good-keys, keys-bad}
+use Rattle.evidence.proofs.Stages.{size-good, header-exact, trailer-exact, counts-good, count-good, block-good, records-good, keys-good, good-keys, keys-bad, unit-signed}
 use Rattle.evidence.proofs.Exact.{stages-meet}
 
 -- a refusal
@@ -161,16 +163,33 @@ module _ (exempt : Bool) (s : List ℕ) where
       (λ y. count-says _ (recordsIn s + 1) 6 (Says.trailer-blocks c a (count-good s _ (recordsIn s + 1) 5 y))
       (λ x. ne (number-of (then-second _ _ z ∙ then-second _ _ y) ∙ x))))
 
-  keys-say : Closed exempt s → Counts s → Says exempt s (keysTold s)
-  keys-say c k = ⊎-elim none found (eq-or-lt-of-le (least-is (repeatsIn (keyOf s)) n .within))
+  keys-say : Closed exempt s → Counts s → Bad (keysTold s) → Says exempt s (keysTold s)
+  keys-say c k ne = ⊎-elim none found (eq-or-lt-of-le (least-is (repeatsIn (keyOf s)) n .within))
     where
       n : ℕ
       n = recordsIn s
 
       none : least (repeatsIn (keyOf s)) n ≡ n → Says exempt s (keysTold s)
-      none e =
-          let d = distinct-if (keyOf s) n (least-before (repeatsIn (keyOf s)) n e) in
-          rw (good-keys s d)
+      none e = absurd (ne (number-of (good-keys s (distinct-if (keyOf s) n (least-before (repeatsIn (keyOf s)) n e)))))
+
+      found : least (repeatsIn (keyOf s)) n < n → Says exempt s (keysTold s)
+      found h =
+          rw (keys-bad s h)
+          (Says.key (least (repeatsIn (keyOf s)) n) c k h (least-is (repeatsIn (keyOf s)) n .holds h) (least-is (repeatsIn (keyOf s)) n .before))
+
+  signed-says : Closed exempt s → Counts s → Distinct (keyOf s) (recordsIn s) → Says exempt s (signedTold s)
+  unfolding signedTold framesTold
+  signed-says c k d = ⊎-elim good found (told tells (recordsIn s))
+    where
+      tells : ℕ → Answer
+      tells i = frameTold s (unitByte s i) (i + 1)
+
+      signed : (i : ℕ) → tells i .number ≡ 0 → SignedIf (kindAt s (startOf s i)) (evidenceIn s i)
+      signed i z = unit-signed s i .0 (frame-good s (unitByte s i) (i + 1) z)
+
+      good : Good tells (recordsIn s) → Says exempt s (firstTold tells (recordsIn s))
+      good g =
+          rw (g .told)
           (Says.good (stages-meet exempt s (record {
             sizes = c .came .sizes;
             header = c .came .header;
@@ -179,12 +198,15 @@ module _ (exempt : Bool) (s : List ℕ) where
             trailer = c .trailer;
             counts = k;
             keys = d;
+            signed = λ i h. signed i (g .all i h);
           })))
 
-      found : least (repeatsIn (keyOf s)) n < n → Says exempt s (keysTold s)
-      found h =
-          rw (keys-bad s h)
-          (Says.key (least (repeatsIn (keyOf s)) n) c k h (least-is (repeatsIn (keyOf s)) n .holds h) (least-is (repeatsIn (keyOf s)) n .before))
+      found : ((i : ℕ) × First tells (recordsIn s) i) → Says exempt s (firstTold tells (recordsIn s))
+      found p =
+          let i = p .0 in
+          let r = p .1 in
+          rw (r .told, bad-frame s (unitByte s i) (i + 1) (r .bad))
+          (Says.frame i c k d (r .below) (λ m h. signed m (r .before m h)) (λ x. r .bad (number-of (good-frame s (unitByte s i) (i + 1) (unit-signed s i .1 x)))))
 
   -- *First refusal*: the answer names the first place at which something is wrong
   pub first-refusal : Says exempt s (readOf exempt s)
@@ -195,10 +217,12 @@ module _ (exempt : Bool) (s : List ℕ) where
       then-says (Says exempt s) (recordsTold exempt s) _ (records-say (size-good s a) (header-exact s .0 b)) (λ c.
       came (record { sizes = size-good s a; header = header-exact s .0 b; each = records-good exempt s c .1 }) (records-good exempt s c .0))))
     where
-      came : Came exempt s (recordsIn s) → recordsIn s ≤ limit → Says exempt s (trailerTold s then (countsTold s then keysTold s))
+      came : Came exempt s (recordsIn s) → recordsIn s ≤ limit → Says exempt s (trailerTold s then (countsTold s then (keysTold s then signedTold s)))
       came c l =
           then-says (Says exempt s) (trailerTold s) _ (trailer-says c l) (λ d.
           closed (record { came = c; few = l; trailer = trailer-exact s .0 d }))
         where
-          closed : Closed exempt s → Says exempt s (countsTold s then keysTold s)
-          closed g = then-says (Says exempt s) (countsTold s) _ (counts-say g) (λ e. keys-say g (counts-good s e))
+          closed : Closed exempt s → Says exempt s (countsTold s then (keysTold s then signedTold s))
+          closed g =
+              then-says (Says exempt s) (countsTold s) _ (counts-say g) (λ e.
+              then-says (Says exempt s) (keysTold s) _ (keys-say g (counts-good s e)) (λ f. signed-says g (counts-good s e) (keys-good s f)))

@@ -3,6 +3,7 @@ pub mod Walks
 pub mod Rows
 pub mod Told
 pub mod Within
+pub mod Units
 pub mod Looked
 pub mod Shown
 pub mod Stages

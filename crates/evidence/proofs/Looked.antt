@@ -2,28 +2,31 @@
 -- Assumes nothing.
 use Prim.Native.Nat.{ℕ, _+_, _%_, _≤_, _<_}
 use mathlib.Core.Bool.{Bool, true, false, cond, _&&_}
-use mathlib.Core.List.{List}
+use mathlib.Core.List.{List, _++_}
 use mathlib.Core.Logic.{⊎-elim}
 use mathlib.Core.Path.{_≡_, refl, sym, _∙_}
 use native.Mathlib.Nat.{eq-or-lt-of-le}
 use native.Mathlib.Omega.{arith}
 use borrow.Author.Tests.{leb-true, eqb-true, lt-ltb}
 use lib.Dec.{leb, eqb}
-use lib.ListN.{length, getD}
+use lib.ListN.{length, getD, length-append}
 use Rattle.laws.specs.Least.{least}
 use Rattle.laws.specs.Part.{same}
+use Rattle.laws.specs.Tabulate.{tabulate}
 use Rattle.laws.proofs.Bools.{and-left, and-right}
 use Rattle.laws.proofs.Leasts.{least-none, least-some, some-true}
-use Rattle.laws.proofs.Tabs.{fill-start, fill-at}
+use Rattle.laws.proofs.Tabs.{tab-length, fill-start, fill-at}
 use Rattle.answers.specs.Answers.{accepted, refused, refusesAt, _then_}
 use Rattle.answers.proofs.Refusals.{number-of, refuses-not, refuses-is, then-first, then-second, then-zero, all-told}
 use Rattle.keys.specs.Keys.{sharesIn, repeatsIn}
 use Rattle.kinds.specs.Kinds.{limit}
-use Rattle.evidence.specs.Blocks.{block, mostBlocks, blocksIn, startOf, recordsIn}
-use Rattle.evidence.specs.Judged.{headerTold, recordTold, recordsTold, goodTo, byteOf, trailerTold}
-use Rattle.evidence.specs.Reading.{isWhole, sizeTold, countsTold, keyOf, repeatTold, keysTold, readOf, goodIn, placesOf}
-use Rattle.evidence.proofs.Walks.{record-begins, records-most, block-inside}
-use Rattle.evidence.proofs.Told.{record-limit}
+use Rattle.evidence_units.specs.Units.{items, saidAt}
+use Rattle.evidence.specs.Blocks.{block, mostBlocks, blocksIn, lengthAt, nextOf, startOf, recordsIn}
+use Rattle.evidence.specs.Judged.{headerTold, recordTold, recordsTold, goodTo, byteOf, unitByte, trailerTold}
+use Rattle.evidence.specs.Reading.{isWhole, sizeTold, countsTold, keyOf, repeatTold, keysTold, signedTold, readOf, goodIn, placesOf}
+use Rattle.evidence.proofs.Walks.{blocks-enough, record-begins, records-most, block-inside}
+use Rattle.evidence.proofs.Told.{block-fits, record-limit, record-block}
+use Rattle.evidence.proofs.Units.{unit-said}
 
 -- a size that is not refused
 pub record Sizes (s : List ℕ) : Type 0 where
@@ -68,7 +71,7 @@ module _ (exempt : Bool) (s : List ℕ) where
     unfolding readOf
     at-records ne = then-second (sizeTold s) _ z ∙ (then-second (headerTold s) _ h ∙ then-first (recordsTold exempt s) _ ne)
 
-    pub at-rest : recordsTold exempt s .number ≡ 0 → readOf exempt s ≡ (trailerTold s then (countsTold s then keysTold s))
+    pub at-rest : recordsTold exempt s .number ≡ 0 → readOf exempt s ≡ (trailerTold s then (countsTold s then (keysTold s then signedTold s)))
     unfolding readOf
     at-rest r = then-second (sizeTold s) _ z ∙ (then-second (headerTold s) _ h ∙ then-second (recordsTold exempt s) _ r)
 
@@ -86,6 +89,14 @@ module _ (exempt : Bool) (s : List ℕ) where
     records-few =
         ⊎-elim (λ e. absurd (omega (arith, number-of (sym (record-limit exempt s limit refl)) ∙ each-good limit (omega (arith, e)))))
         (λ l. omega (arith, l)) (eq-or-lt-of-le (records-most s))
+
+    -- and the unit of each lies within the file
+    pub unit-inside : 2 ≤ blocksIn s → (i : ℕ) → i < recordsIn s → unitByte s i + (items + saidAt s (unitByte s i)) ≤ length s
+    unfolding unitByte byteOf nextOf blocksIn
+    unit-inside some i l =
+        let b = startOf s i in
+        let met = number-of (sym (record-block exempt s i (λ q. absurd (omega (arith, q, l, records-few))))) ∙ each-good i l in
+        omega (arith, unit-said s i, blocks-enough (lengthAt s b), block-fits exempt s b (i + 1) met)
 
   -- a file that is not refused: none of its parts is, and all its records are counted
   pub read-good : readOf exempt s .number ≡ 0 → (sizeTold s .number ≡ 0) × ((headerTold s .number ≡ 0) × (recordsTold exempt s .number ≡ 0))
@@ -105,7 +116,8 @@ module _ (exempt : Bool) (s : List ℕ) where
       let u = then-zero (headerTold s) _ (t .1) in
       let v = then-zero (recordsTold exempt s) _ (u .1) in
       let w = then-zero (trailerTold s) _ (v .1) in
-      then-zero (countsTold s) _ (w .1) .1
+      let x = then-zero (countsTold s) _ (w .1) in
+      then-zero (keysTold s) _ (x .1) .0
 
   -- what stands in the places
   pub places-none : (old : List ℕ) → goodIn exempt s ≡ 0 → old ≡ placesOf exempt s old
@@ -115,6 +127,10 @@ module _ (exempt : Bool) (s : List ℕ) where
   pub place-at : (old : List ℕ) (i : ℕ) → i < goodIn exempt s → getD (placesOf exempt s old) i 0 ≡ byteOf s i
   unfolding placesOf
   place-at old i l = fill-at (byteOf s) old (goodIn exempt s) i l
+
+-- a list has a place for each record whose first byte is in it
+pub places-long : (f : ℕ → ℕ) (n : ℕ) (rest : List ℕ) → n ≤ length (tabulate f n ++ rest)
+places-long f n rest = rw length-append (omega (arith, tab-length f n))
 
 -- every record's first block lies in the file
 pub first-inside : (s : List ℕ) (i : ℕ) → i < recordsIn s → byteOf s i + 1024 ≤ length s

@@ -1,4 +1,4 @@
--- What each stage of reading says: size, header, records, trailer, counts, keys. Accepted is that each of them is good.
+-- What each stage of reading says: size, header, records, trailer, counts, keys, frames. Accepted is that each of them is good.
 -- Assumes nothing.
 use Prim.Native.Nat.{ℕ, _+_, _*_, _%_, _≤_, _<_}
 use mathlib.Core.Bool.{Bool, true, _&&_}
@@ -22,12 +22,16 @@ use Rattle.evidence_rows.specs.Tables.{headerRows, dataRows, trailerRows}
 use Rattle.layout.proofs.Judged.{judge-exact}
 use Rattle.keys.specs.Keys.{repeatsIn, Distinct}
 use Rattle.keys.proofs.Distinct.{distinct-if, repeat-none}
-use Rattle.evidence.specs.Blocks.{block, front, mostBlocks, blocksIn, lastBlock, blockAt, lengthAt, kindAt, nextOf, startOf, recordsIn}
-use Rattle.evidence.specs.Judged.{noOwn, lengthGood, headerTold, itemsTold, lengthTold, fillerAt, fillerTold, blockTold, recordTold, recordsTold, trailerTold}
-use Rattle.evidence.specs.Reading.{isWhole, sizeTold, countTold, countsTold, keyOf, repeatTold, keysTold, readOf}
+use Rattle.evidence.specs.Blocks.{block, front, mostBlocks, blocksIn, lastBlock, blockAt, lengthAt, kindAt, nextOf, startOf, recordsIn, evidenceIn}
+use Rattle.evidence.specs.Judged.{noOwn, lengthGood, headerTold, itemsTold, lengthTold, fillerAt, fillerTold, blockTold, recordTold, recordsTold, unitByte, trailerTold}
+use Rattle.evidence.specs.Reading.{isWhole, sizeTold, countTold, countsTold, keyOf, repeatTold, keysTold, signedTold, readOf}
 use Rattle.evidence.specs.Meets.{RowsHold}
-use Rattle.evidence.specs.Stages.{Sizes, Good, Each, Counts, Stages}
+use Rattle.evidence.specs.Stages.{Sizes, Good, Each, Counts, EachSigned, Stages}
+use Rattle.evidence_units.specs.Units.{sortAt, evidenceAt}
+use Rattle.evidence_units.specs.Frames.{SignedIf}
+use Rattle.evidence_units.proofs.Framed.{frames-good, good-frames}
 use Rattle.evidence.proofs.Walks.{records-most}
+use Rattle.evidence.proofs.Units.{unit-kind, unit-evidence}
 
 -- what is told of n keys
 module _ (key : ℕ → List ℕ) (n : ℕ) where
@@ -115,6 +119,18 @@ module _ (s : List ℕ) where
   unfolding keysTold
   keys-bad = bad-repeat (keyOf s) (recordsIn s)
 
+  -- the frames
+  pub unit-signed : (i : ℕ) → SignedIf (sortAt s (unitByte s i)) (evidenceAt s (unitByte s i)) ↔ SignedIf (kindAt s (startOf s i)) (evidenceIn s i)
+  unit-signed i = (λ x. rw (← unit-kind s i, ← unit-evidence s i) x, λ x. rw (unit-kind s i, unit-evidence s i) x)
+
+  pub signed-good : signedTold s .number ≡ 0 → EachSigned s (recordsIn s)
+  unfolding signedTold
+  signed-good e i h = unit-signed i .0 (frames-good s (unitByte s) (recordsIn s) e i h)
+
+  pub good-signed : EachSigned s (recordsIn s) → signedTold s ≡ accepted
+  unfolding signedTold
+  good-signed x = good-frames s (unitByte s) (recordsIn s) (λ i h. unit-signed i .1 (x i h))
+
 module _ (exempt : Bool) (s : List ℕ) where
   -- one record
   pub block-good : (b n : ℕ) → blockTold exempt s b n .number ≡ 0 → Good exempt s b n
@@ -165,6 +181,7 @@ module _ (exempt : Bool) (s : List ℕ) where
       let c = then-zero _ _ (b .1) in
       let d = then-zero _ _ (c .1) in
       let f = then-zero _ _ (d .1) in
+      let g = then-zero _ _ (f .1) in
       record {
         sizes = size-good s (a .0);
         header = header-exact s .0 (b .0);
@@ -172,7 +189,8 @@ module _ (exempt : Bool) (s : List ℕ) where
         each = records-good (c .0) .1;
         trailer = trailer-exact s .0 (d .0);
         counts = counts-good s (f .0);
-        keys = keys-good s (f .1);
+        keys = keys-good s (g .0);
+        signed = signed-good s (g .1);
       }
 
   pub good-read : Stages exempt s → readOf exempt s ≡ accepted
@@ -182,7 +200,8 @@ module _ (exempt : Bool) (s : List ℕ) where
       (then-second _ _ (header-exact s .1 (m .header)) ∙
       (then-second _ _ (number-of (good-records (m .few) (m .each))) ∙
       (then-second _ _ (trailer-exact s .1 (m .trailer)) ∙
-      (then-second _ _ (number-of (good-counts s (m .counts))) ∙ good-keys s (m .keys)))))
+      (then-second _ _ (number-of (good-counts s (m .counts))) ∙
+      (then-second _ _ (number-of (good-keys s (m .keys))) ∙ good-signed s (m .signed))))))
 
   pub stages-exact : (readOf exempt s ≡ accepted) ↔ Stages exempt s
   stages-exact = (λ e. read-good (number-of e), good-read)

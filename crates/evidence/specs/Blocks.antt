@@ -68,3 +68,6 @@ evidenceStart s i = startOf s i * block + front
 
 abbrev pub evidenceLength : List ℕ → ℕ → ℕ
 evidenceLength s i = lengthAt s (startOf s i)
+
+unfoldable pub evidenceIn : List ℕ → ℕ → List ℕ
+evidenceIn s i = part (evidenceStart s i) (evidenceLength s i) s

@@ -15,12 +15,13 @@ use Rattle.answers.specs.Answers.{accepted, refused, refusedAt}
 use Rattle.evidence_rows.specs.Tables.{headerRows, dataRows, trailerRows}
 use Rattle.layout.specs.Rules.{holds}
 use Rattle.layout.specs.Judging.{brokenAt}
-use Rattle.keys.specs.Keys.{repeatsIn}
-use Rattle.evidence.specs.Blocks.{block, front, mostBlocks, blocksIn, lastBlock, dataBlocks, blockAt, lengthAt, kindAt, nextOf, startOf, recordsIn}
+use Rattle.keys.specs.Keys.{repeatsIn, Distinct}
+use Rattle.evidence_units.specs.Frames.{SignedIf}
+use Rattle.evidence.specs.Blocks.{block, front, mostBlocks, blocksIn, lastBlock, dataBlocks, blockAt, lengthAt, kindAt, nextOf, startOf, recordsIn, evidenceIn}
 use Rattle.evidence.specs.Judged.{noOwn, lengthGood, fillerAt}
 use Rattle.evidence.specs.Reading.{isWhole, keyOf}
 use Rattle.evidence.specs.Meets.{RowsHold, Meets}
-use Rattle.evidence.specs.Stages.{Sizes, Each, Counts}
+use Rattle.evidence.specs.Stages.{Sizes, Each, Counts, EachSigned}
 
 -- row j does not hold in record n, and every row before it does
 pub record Broken (rows : List Row) (rec header : List ℕ) (n j : ℕ) : Type 0 where
@@ -86,3 +87,6 @@ pub data Says (exempt : Bool) (s : List ℕ) : Answer → Type 0 where
   -- 7: the counts are right too, and record i + 1 is the first that repeats an earlier key
   key : (i : ℕ) → Closed exempt s → Counts s → i < recordsIn s → repeatsIn (keyOf s) i ≡ true →
       ((m : ℕ) → m < i → repeatsIn (keyOf s) m ≡ false) → Says exempt s (refusedAt 7 (i + 1) 6 0x30303030)
+  -- 22: no key is an earlier one's, and record i + 1 is the first whose evidence is to be signed and has not the frame
+  frame : (i : ℕ) → Closed exempt s → Counts s → Distinct (keyOf s) (recordsIn s) → i < recordsIn s → EachSigned s i →
+      (SignedIf (kindAt s (startOf s i)) (evidenceIn s i) → ⊥) → Says exempt s (refusedAt 22 (i + 1) 13 0x30303030)

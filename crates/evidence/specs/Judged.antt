@@ -60,6 +60,10 @@ goodTo exempt s = least (refusesAt (recordTold exempt s)) (recordsIn s)
 unfoldable pub byteOf : List ℕ → ℕ → ℕ
 byteOf s i = startOf s i * block
 
+-- and of its unit: item 6
+unfoldable pub unitByte : List ℕ → ℕ → ℕ
+unitByte s i = byteOf s i + 45
+
 -- of the trailer, the last block: record n + 1
 unfoldable pub trailerTold : List ℕ → Answer
 trailerTold s = judgeBy noOwn trailerRows (blockAt s (lastBlock s)) (blockAt s 0) (recordsIn s + 1)

@@ -13,6 +13,7 @@ use Rattle.kinds.specs.Kinds.{limit}
 use Rattle.keys.specs.Keys.{Distinct}
 use Rattle.tables.specs.declared.row.Row.{Row}
 use Rattle.tables.specs.Rows.{blank}
+use Rattle.evidence_units.specs.Frames.{SignedIf}
 use Rattle.evidence_rows.specs.Tables.{headerRows, dataRows, trailerRows}
 use Rattle.layout.specs.Rules.{holds}
 use Rattle.evidence.specs.Blocks.{block, front, mostBlocks, blocksFor}
@@ -54,6 +55,7 @@ pub record Composed (exempt : Bool) (s header trailer : List ℕ) (n : ℕ) (ent
   pub trailer-count : says (part 35 7 trailer) n ≡ true
   pub trailer-blocks : says (part 42 10 trailer) (blocksTo entry n) ≡ true
   pub keys : Distinct (λ i. part 45 61 (entry i)) n
+  pub signed : (i : ℕ) → i < n → SignedIf (getD (entry i) 106 0) (part front (evidenceOf (entry i)) (entry i))
 
 pub record Meets (exempt : Bool) (s : List ℕ) : Type 0 where
   pub header : List ℕ

@@ -1,4 +1,4 @@
--- Reading an evidence file: 2, 3; the header; the records; the trailer; 6; 7.
+-- Reading an evidence file: 2, 3; the header; the records; the trailer; 6; 7; 22.
 use Prim.Native.Nat.{ℕ, _+_, _%_}
 use mathlib.Core.Bool.{Bool, cond, _&&_}
 use mathlib.Core.List.{List, _++_}
@@ -11,9 +11,10 @@ use Rattle.numbers.specs.Numbers.{says}
 use Rattle.answers.specs.declared.told.Answer.{Answer}
 use Rattle.answers.specs.Answers.{accepted, refused, refusedAt, refuses, _then_}
 use Rattle.keys.specs.Keys.{repeatsIn}
+use Rattle.evidence_units.specs.Frames.{framesTold}
 use Rattle.evidence.specs.Blocks.{block, mostBlocks, blocksIn, lastBlock, dataBlocks, blockAt, recordsIn}
 use Rattle.evidence.specs.declared.reading.Looked.{Looked}
-use Rattle.evidence.specs.Judged.{headerTold, recordsTold, goodTo, byteOf, trailerTold}
+use Rattle.evidence.specs.Judged.{headerTold, recordsTold, goodTo, byteOf, unitByte, trailerTold}
 
 -- whole blocks, and two at least; then no more data blocks than may be
 unfoldable pub isWhole : List ℕ → Bool
@@ -43,9 +44,14 @@ repeatTold n i = cond (ltb i n) (refusedAt 7 (i + 1) 6 0x30303030) accepted
 unfoldable pub keysTold : List ℕ → Answer
 keysTold s = repeatTold (recordsIn s) (least (repeatsIn (keyOf s)) (recordsIn s))
 
+-- 22 at the first record whose evidence is to be signed and has not the frame
+unfoldable pub signedTold : List ℕ → Answer
+signedTold s = framesTold s (unitByte s) (recordsIn s)
+
 -- what reading any bytes says
 unfoldable pub readOf : Bool → List ℕ → Answer
-readOf exempt s = sizeTold s then (headerTold s then (recordsTold exempt s then (trailerTold s then (countsTold s then keysTold s))))
+readOf exempt s =
+    sizeTold s then (headerTold s then (recordsTold exempt s then (trailerTold s then (countsTold s then (keysTold s then signedTold s)))))
 
 -- how many records were found good: none where the size or the header is refused
 unfoldable pub goodIn : Bool → List ℕ → ℕ

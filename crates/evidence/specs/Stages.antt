@@ -9,8 +9,9 @@ use Rattle.text.specs.Characters.{spaces}
 use Rattle.numbers.specs.Numbers.{says}
 use Rattle.kinds.specs.Kinds.{limit}
 use Rattle.keys.specs.Keys.{Distinct}
+use Rattle.evidence_units.specs.Frames.{SignedIf}
 use Rattle.evidence_rows.specs.Tables.{headerRows, dataRows, trailerRows}
-use Rattle.evidence.specs.Blocks.{block, front, mostBlocks, blocksIn, lastBlock, dataBlocks, blockAt, lengthAt, kindAt, nextOf, startOf, recordsIn}
+use Rattle.evidence.specs.Blocks.{block, front, mostBlocks, blocksIn, lastBlock, dataBlocks, blockAt, lengthAt, kindAt, nextOf, startOf, recordsIn, evidenceIn}
 use Rattle.evidence.specs.Judged.{lengthGood, fillerAt}
 use Rattle.evidence.specs.Reading.{keyOf}
 use Rattle.evidence.specs.Meets.{RowsHold}
@@ -38,6 +39,10 @@ pub record Counts (s : List ℕ) : Type 0 where
   pub trailer : says (part 35 7 (blockAt s (lastBlock s))) (recordsIn s) ≡ true
   pub blocks : says (part 42 10 (blockAt s (lastBlock s))) (dataBlocks s) ≡ true
 
+-- evidence of the first n records that is to be signed has the frame
+abbrev pub EachSigned : List ℕ → ℕ → Type 0
+EachSigned s n = (i : ℕ) → i < n → SignedIf (kindAt s (startOf s i)) (evidenceIn s i)
+
 pub record Stages (exempt : Bool) (s : List ℕ) : Type 0 where
   pub sizes : Sizes s
   pub header : RowsHold headerRows (blockAt s 0) (blockAt s 0) 0
@@ -46,3 +51,4 @@ pub record Stages (exempt : Bool) (s : List ℕ) : Type 0 where
   pub trailer : RowsHold trailerRows (blockAt s (lastBlock s)) (blockAt s 0) (recordsIn s + 1)
   pub counts : Counts s
   pub keys : Distinct (keyOf s) (recordsIn s)
+  pub signed : EachSigned s (recordsIn s)

@@ -1,17 +1,19 @@
-// Reading an evidence file: 2, 3; the header; the records; the trailer; 6; 7.
+// Reading an evidence file: 2, 3; the header; the records; the trailer; 6; 7; 22.
 ghost use mathlib.Core.Path.{_≡_};
 ghost use Prim.Native.Nat.{ℕ, _+_, _≤_, _<_};
 ghost use lib.ListN.{length, getD};
 ghost use Rattle.answers.specs.Answers.{_then_};
 ghost use Rattle.kinds.specs.Kinds.{limit};
+ghost use Rattle.evidence_units.specs.Units.{items, saidAt};
 ghost use Rattle.evidence.specs.Blocks.{blocksIn, recordsIn};
-ghost use Rattle.evidence.specs.Judged.{byteOf, trailerTold};
-ghost use Rattle.evidence.specs.Reading.{isWhole, sizeTold, countsTold, keysTold, readOf, lookedAt, placesOf};
+ghost use Rattle.evidence.specs.Judged.{byteOf, unitByte, trailerTold};
+ghost use Rattle.evidence.specs.Reading.{isWhole, sizeTold, countsTold, keysTold, signedTold, readOf, lookedAt, placesOf};
 use crate::blocks;
 use crate::blocks::BLOCK;
 use crate::judged;
 use crate::totals;
 use answers::told::Answer;
+use evidence_units::framing;
 use kinds::of_files::LIMIT;
 
 // The answer, and how many records are good before the first that is refused.
@@ -38,14 +40,19 @@ fn size_tells(file: &[u8]) -> Answer
     Answer::refused(2)
 }
 
-// The trailer, the counts, the keys.
+// Where the unit of a record begins: item 6.
+const UNIT: usize = 45;
+
+// The trailer, the counts, the keys, the frames.
 fn rest_tells(file: &[u8], places: &[u32], n: usize) -> Answer
     requires { ⌜ 2 ≤ blocksIn (now file) ⌝ }
     requires { ⌜ n ≤ limit ⌝ }
     requires { ⌜ n ≡ recordsIn (now file) ⌝ }
     requires { ⌜ ((i : ℕ) → i < n → getD (now places) i 0 ≡ byteOf (now file) i) ⌝ }
     requires { ⌜ ((i : ℕ) → i < n → byteOf (now file) i + 1024 ≤ length (now file)) ⌝ }
-    ensures { λ r. ⌜ r ≡ (trailerTold (now (file .entry)) then (countsTold (now (file .entry)) then keysTold (now (file .entry)))) ⌝ }
+    requires { ⌜ n ≤ length (now places) ⌝ }
+    requires { ⌜ ((i : ℕ) → i < n → unitByte (now file) i + (items + saidAt (now file) (unitByte (now file) i)) ≤ length (now file)) ⌝ }
+    ensures { λ r. ⌜ r ≡ (trailerTold (now (file .entry)) then (countsTold (now (file .entry)) then (keysTold (now (file .entry)) then signedTold (now (file .entry))))) ⌝ }
 {
     let of_trailer = judged::trailer_tells(file, n);
     if of_trailer.number != 0 {
@@ -55,7 +62,11 @@ fn rest_tells(file: &[u8], places: &[u32], n: usize) -> Answer
     if of_counts.number != 0 {
         return of_counts;
     }
-    totals::keys_tell(file, places, n)
+    let of_keys = totals::keys_tell(file, places, n);
+    if of_keys.number != 0 {
+        return of_keys;
+    }
+    framing::frames_tell(file, places, UNIT, n)
 }
 
 // Reads any bytes, and leaves the first byte of each good record in the places.

@@ -10,7 +10,8 @@ use lib.ListN.{length}
 use Rattle.laws.specs.Least.{least}
 use Rattle.laws.proofs.Leasts.{least-more, least-stop}
 use Rattle.kinds.specs.Kinds.{limit}
-use Rattle.evidence_builder.specs.Units.{items, saidAt, placeOf, doneAt, unitsIn}
+use Rattle.evidence_units.specs.Units.{items, saidAt}
+use Rattle.evidence_builder.specs.Units.{placeOf, doneAt, unitsIn}
 
 -- the walk, step by step
 pub place-first : (x : List ℕ) → placeOf x 0 ≡ 0

@@ -1,26 +1,15 @@
--- What a writer is given, one behind the other: items 6 to 12 of a record, 74 bytes, then its evidence.
+-- What a writer is given: units, one behind the other.
 use Prim.Native.Nat.{ℕ, zero, suc, _+_}
 use mathlib.Core.Bool.{Bool}
 use mathlib.Core.List.{List}
 use lib.Dec.{leb}
-use lib.ListN.{length, getD}
+use lib.ListN.{length}
 use Rattle.laws.specs.Least.{least}
 use Rattle.laws.specs.Part.{part}
 use Rattle.laws.specs.Sum.{sum}
-use Rattle.numbers.specs.Numbers.{valueOf}
 use Rattle.kinds.specs.Kinds.{limit}
+use Rattle.evidence_units.specs.Units.{items, saidAt}
 use Rattle.evidence.specs.Blocks.{blocksFor}
-
--- bytes of items 6 to 12
-abbrev pub items : ℕ
-items = 74
-
--- of the unit that begins at place p: how many bytes of evidence it says, and their kind
-unfoldable pub saidAt : List ℕ → ℕ → ℕ
-saidAt x p = valueOf (part (p + 67) 7 x)
-
-unfoldable pub sortAt : List ℕ → ℕ → ℕ
-sortAt x p = getD x (p + 61) 0
 
 -- where unit i begins
 unfoldable pub placeOf : List ℕ → ℕ → ℕ

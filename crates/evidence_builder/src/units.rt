@@ -2,22 +2,11 @@
 ghost use mathlib.Core.Path.{_≡_};
 ghost use Prim.Native.Nat.{_+_, _-_, _≤_, _<_};
 ghost use lib.ListN.{length};
-ghost use Rattle.evidence_builder.specs.Units.{items, saidAt, unitsIn};
+ghost use Rattle.evidence_units.specs.Units.{items, saidAt};
+ghost use Rattle.evidence_builder.specs.Units.{unitsIn};
+use evidence_units::items;
+use evidence_units::items::ITEMS;
 use kinds::of_files::LIMIT;
-use numbers::base_ten;
-use text::parts;
-
-// Bytes of items 6 to 12.
-pub const ITEMS: usize = 74;
-
-// How many bytes of evidence the unit says that begins at place p.
-pub fn said(x: &[u8], p: usize) -> usize
-    requires { ⌜ p + 74 ≤ length (now x) ⌝ }
-    ensures { λ r. ⌜ r ≡ saidAt (now (x .entry)) p ⌝ }
-    ensures { λ r. ⌜ r < 10000000 ⌝ }
-{
-    base_ten::number(parts::part(x, p + 67, 7)) as usize
-}
 
 // How many bytes are left behind the unit with which the last `left` bytes begin; none where it says more than these.
 fn left_behind(x: &[u8], left: usize) -> usize
@@ -27,7 +16,7 @@ fn left_behind(x: &[u8], left: usize) -> usize
     if left < ITEMS {
         return 0;
     }
-    let size = said(x, x.len() - left);
+    let size = items::said(x, x.len() - left);
     if left - ITEMS < size {
         return 0;
     }

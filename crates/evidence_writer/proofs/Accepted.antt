@@ -23,13 +23,14 @@ use Rattle.evidence.specs.Meets
 use Rattle.evidence.specs.Meets.{blocksOf, Composed}
 use Rattle.evidence.proofs.Walks.{blocks-enough}
 use Rattle.evidence.proofs.Exact.{stands, room, stands-says, starts, counted, read-exact}
-use Rattle.evidence_builder.specs.Units.{items, saidBy, unitOf, unitsIn, blocksTo}
+use Rattle.evidence_units.specs.Units.{items}
+use Rattle.evidence_builder.specs.Units.{saidBy, unitOf, unitsIn, blocksTo}
 use Rattle.evidence_builder.specs.Files.{headerBlock, recordOf, trailerBlock, fileOf}
 use Rattle.evidence_writer.specs.Writing.{Whole}
 use Rattle.evidence_writer.specs.Given.{Given}
 use Rattle.evidence_writer.specs.Apart.{dateIn, codeIn, unitIn, unitsOf, Holds}
 use Rattle.evidence_writer.proofs.Built.{units-all, header-long, trailer-long, given-whole}
-use Rattle.evidence_writer.proofs.Said.{record-unit, record-length, record-key, record-fits}
+use Rattle.evidence_writer.proofs.Said.{record-unit, record-length, record-key, record-kind, record-evidence, record-fits}
 use Rattle.evidence_writer.proofs.Ends
 use Rattle.evidence_writer.proofs.Trailer.{header-good, trailer-rows}
 
@@ -84,6 +85,9 @@ module _ (exempt : Bool) (date code x : List ℕ) (g : Given exempt date code x)
         keys = λ i j a b e.
             g .keys i j a b
             (sym (record-key code x i (g .code-long) (whole i a)) ∙ (e ∙ record-key code x j (g .code-long) (whole j b)));
+        signed = λ i h.
+            rw (record-length code x i (g .code-long) (whole i h), record-kind code x i (g .code-long) (whole i h), record-evidence code x i (g .code-long) (whole i h))
+            (g .signed i h);
       }
 
   -- *What is written reads*

@@ -19,7 +19,8 @@ use Rattle.numbers.proofs.Values.{digits-length}
 use Rattle.kinds.specs.Kinds.{limit}
 use Rattle.evidence.specs.Blocks.{block, front, blocksFor}
 use Rattle.evidence.proofs.Walks.{blocks-enough}
-use Rattle.evidence_builder.specs.Units.{items, placeOf, doneAt, saidBy, unitOf, unitsIn, blocksTo}
+use Rattle.evidence_units.specs.Units.{items}
+use Rattle.evidence_builder.specs.Units.{placeOf, doneAt, saidBy, unitOf, unitsIn, blocksTo}
 use Rattle.evidence_builder.specs.Files.{blanks, marks, institutionOf, headerBlock, recordFront, recordOf, trailerBlock, fileOf}
 use Rattle.evidence_builder.proofs.Walked.{place-more}
 use Rattle.evidence_builder.proofs.Written.{blanks-length, marks-length, institution-length, front-length}

@@ -26,10 +26,12 @@ use Rattle.layout.proofs.Judged.{judge-exact}
 use Rattle.evidence.specs.Blocks.{blocksFor, mostBlocks}
 use Rattle.evidence.specs.Judged.{noOwn, lengthGood}
 use Rattle.evidence.proofs.Stages.{repeat-good, good-repeat, bad-repeat}
-use Rattle.evidence_builder.specs.Units.{items, saidAt, sortAt, placeOf, saidBy, doneAt, unitsIn, blocksTo}
+use Rattle.evidence_units.specs.Units.{items, saidAt, sortAt}
+use Rattle.evidence_units.proofs.Framed.{frames-good, good-frames}
+use Rattle.evidence_builder.specs.Units.{placeOf, saidBy, doneAt, unitsIn, blocksTo}
 use Rattle.evidence_builder.specs.Files.{headerBlock, recordFront}
-use Rattle.evidence_writer.specs.Writing.{partsTold, headerTold, itemsTold, lengthTold, evidenceTold, unitTold, recordTold, recordsTold, keyOf, keysTold, decided}
-use Rattle.evidence_writer.specs.Given.{UnitGood, Given}
+use Rattle.evidence_writer.specs.Writing.{partsTold, headerTold, itemsTold, lengthTold, evidenceTold, unitTold, recordTold, recordsTold, keyOf, keysTold, signedTold, decided}
+use Rattle.evidence_writer.specs.Given.{UnitGood, EachSigned, Given}
 
 -- a test with a refusal where it fails, and an answer where it holds
 pub passed : (t : Bool) (a b : Answer) → (b .number ≡ 0 → ⊥) → cond t a b .number ≡ 0 → (t ≡ true) × (a .number ≡ 0)
@@ -130,6 +132,15 @@ pub keys-bad : (x : List ℕ) → least (repeatsIn (keyOf x)) (unitsIn x) < unit
 unfolding keysTold
 keys-bad x = bad-repeat (keyOf x) (unitsIn x)
 
+-- the frames
+pub signed-good : (x : List ℕ) → signedTold x .number ≡ 0 → EachSigned x (unitsIn x)
+unfolding signedTold
+signed-good x = frames-good x (placeOf x) (unitsIn x)
+
+pub good-signed : (x : List ℕ) → EachSigned x (unitsIn x) → signedTold x ≡ accepted
+unfolding signedTold
+good-signed x = good-frames x (placeOf x) (unitsIn x)
+
 module _ (exempt : Bool) (date code x : List ℕ) where
   -- number 0 is enough
   pub decided-given : decided exempt date code x .number ≡ 0 → Given exempt date code x
@@ -139,6 +150,7 @@ module _ (exempt : Bool) (date code x : List ℕ) where
       let a = then-zero _ _ e in
       let b = then-zero _ _ (a .1) in
       let c = then-zero _ _ (b .1) in
+      let d = then-zero _ _ (c .1) in
       let parts = parts-good date code (a .0) in
       let records = records-good exempt header code x (c .0) in
       record {
@@ -148,7 +160,8 @@ module _ (exempt : Bool) (date code x : List ℕ) where
         few = records .0;
         each = records .1 .0;
         most = records .1 .1;
-        keys = keys-good x (c .1);
+        keys = keys-good x (d .0);
+        signed = signed-good x (d .1);
       }
 
   pub given-decided : Given exempt date code x → decided exempt date code x ≡ accepted
@@ -157,7 +170,8 @@ module _ (exempt : Bool) (date code x : List ℕ) where
       let header = headerBlock date code (unitsIn x) in
       then-second _ _ (number-of (good-parts date code (g .date-long) (g .code-long))) ∙
       (then-second _ _ (judge-exact noOwn headerRows header header 0 .1 (g .header)) ∙
-      (then-second _ _ (number-of (good-records exempt header code x (g .few) (g .each) (g .most))) ∙ good-keys x (g .keys)))
+      (then-second _ _ (number-of (good-records exempt header code x (g .few) (g .each) (g .most))) ∙
+      (then-second _ _ (number-of (good-keys x (g .keys))) ∙ good-signed x (g .signed))))
 
   -- *Exact*: accepted exactly when it is given so
   pub decided-exact : (decided exempt date code x ≡ accepted) ↔ Given exempt date code x

@@ -17,6 +17,8 @@ use Rattle.kinds.specs.Kinds.{limit}
 use Rattle.answers.specs.declared.told.Answer.{Answer}
 use Rattle.answers.specs.Answers.{accepted, refused, firstTold, _then_}
 use Rattle.answers.proofs.Refusals.{tested, number-of, then-second, told, First}
+use Rattle.evidence_units.specs.Frames.{SignedIf, frameTold, framesTold}
+use Rattle.evidence_units.proofs.Framed.{frame-good, good-frame, bad-frame}
 use Rattle.evidence_rows.specs.Tables.{headerRows, dataRows}
 use Rattle.layout.proofs.Judged.{judge-exact}
 use Rattle.keys.specs.Keys.{repeatsIn}
@@ -25,12 +27,13 @@ use Rattle.evidence.specs.Blocks.{blocksFor, mostBlocks}
 use Rattle.evidence.specs.Judged.{noOwn, lengthGood}
 use Rattle.evidence.specs.Meets.{RowsHold}
 use Rattle.evidence.proofs.First.{Bad, then-says, test-says, rows-say}
-use Rattle.evidence_builder.specs.Units.{items, saidAt, sortAt, placeOf, saidBy, unitsIn, blocksTo}
+use Rattle.evidence_units.specs.Units.{items, saidAt, sortAt, evidenceAt}
+use Rattle.evidence_builder.specs.Units.{placeOf, saidBy, unitsIn, blocksTo}
 use Rattle.evidence_builder.specs.Files.{fileOf}
-use Rattle.evidence_writer.specs.Writing.{partsTold, headerTold, itemsTold, lengthTold, evidenceTold, unitTold, recordTold, recordsTold, keyOf, keysTold, decided, writeTold}
+use Rattle.evidence_writer.specs.Writing.{partsTold, headerTold, itemsTold, lengthTold, evidenceTold, unitTold, recordTold, recordsTold, keyOf, keysTold, signedTold, decided, writeTold}
 use Rattle.evidence_writer.specs.Given.{Given}
 use Rattle.evidence_writer.specs.First.{Parts, headerFor, frontFor, Reached, Met, There, Held, Long, Says}
-use Rattle.evidence_writer.proofs.Decides.{parts-good, units-most, blocks-most, unit-good, records-good, good-keys, keys-bad, decided-given}
+use Rattle.evidence_writer.proofs.Decides.{parts-good, units-most, blocks-most, unit-good, records-good, keys-good, good-keys, keys-bad, decided-given}
 
 module _ (exempt : Bool) (date code x : List ℕ) (room : ℕ) where
   abbrev Tells : Answer → Type 0
@@ -138,6 +141,26 @@ module _ (exempt : Bool) (date code x : List ℕ) (room : ℕ) where
         (λ h. rw (keys-bad x h) (Says.key (least (repeatsIn (keyOf x)) (unitsIn x)) all (g .0) h (first .holds h) (first .before)))
         (eq-or-lt-of-le (first .within))
 
+    -- no key is, and a frame is not
+    signed-say : recordsTold exempt header code x .number ≡ 0 → keysTold x .number ≡ 0 → Bad (signedTold x) → Tells (signedTold x)
+    unfolding signedTold framesTold
+    signed-say z y ne = ⊎-elim (λ g. absurd (ne (number-of (g .told)))) found (told tells (unitsIn x))
+      where
+        tells : ℕ → Answer
+        tells i = frameTold x (placeOf x i) (i + 1)
+
+        signed : (i : ℕ) → tells i .number ≡ 0 → SignedIf (sortAt x (placeOf x i)) (evidenceAt x (placeOf x i))
+        signed i = frame-good x (placeOf x i) (i + 1)
+
+        found : ((i : ℕ) × First tells (unitsIn x) i) → Tells (firstTold tells (unitsIn x))
+        found q =
+            let i = q .0 in
+            let f = q .1 in
+            let g = records-good exempt header code x z in
+            rw (f .told, bad-frame x (placeOf x i) (i + 1) (f .bad))
+            (Says.frame i (record { parts = p; header = r; each = g .1 .0; most = g .1 .1 }) (g .0) (keys-good x y) (f .below)
+            (λ m h. signed m (f .before m h)) (λ s. f .bad (number-of (good-frame x (placeOf x i) (i + 1) s))))
+
   decided-says : Bad (decided exempt date code x) → Tells (decided exempt date code x)
   unfolding decided headerTold
   decided-says ne =
@@ -146,7 +169,8 @@ module _ (exempt : Bool) (date code x : List ℕ) (room : ℕ) where
       then-says Tells (headerTold header) _ (header-says p) (λ b.
       let r = judge-exact noOwn headerRows header header 0 .0 b in
       then-says Tells (recordsTold exempt header code x) _ (records-say p r) (λ c.
-      keys-say p r c (λ z. ne (number-of (then-second _ _ a ∙ (then-second _ _ b ∙ then-second _ _ c)) ∙ z)))))
+      then-says Tells (keysTold x) _ (keys-say p r c) (λ d.
+      signed-say p r c d (λ z. ne (number-of (then-second _ _ a ∙ (then-second _ _ b ∙ (then-second _ _ c ∙ then-second _ _ d))) ∙ z))))))
 
   room-says : Given exempt date code x → Tells (cond (leb (length (fileOf date code x)) room) accepted (refused 8))
   room-says g = ⊎-elim (λ t. rw t (Says.good g (leb-true _ _ t))) (λ f. rw f (Says.room g (leb-false _ _ f))) (either (leb (length (fileOf date code x)) room))

@@ -9,7 +9,7 @@ use Rattle.laws.specs.Part.{part}
 use Rattle.evidence.specs.Blocks.{block, startOf, evidenceLength}
 use Rattle.evidence.specs.Judged.{byteOf}
 use Rattle.evidence.specs.Parts.{Shows}
-use Rattle.evidence_builder.specs.Units.{items}
+use Rattle.evidence_units.specs.Units.{items}
 use Rattle.evidence_writer.specs.Apart.{unitIn}
 
 -- *Handed out*: items 6 to 12 stand right before the evidence that is shown

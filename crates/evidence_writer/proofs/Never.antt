@@ -30,10 +30,12 @@ use Rattle.layout.specs.Judging.{rowTells, judgeBy}
 use Rattle.evidence.specs.Blocks.{blocksFor, mostBlocks}
 use Rattle.evidence.specs.Judged.{noOwn, lengthGood}
 use Rattle.evidence.specs.Reading.{repeatTold}
-use Rattle.evidence_builder.specs.Units.{items, saidAt, sortAt, placeOf, unitsIn, blocksTo}
+use Rattle.evidence_units.specs.Units.{items, saidAt, sortAt, evidenceAt}
+use Rattle.evidence_units.specs.Frames.{frameGood, frameTold, framesTold}
+use Rattle.evidence_builder.specs.Units.{placeOf, unitsIn, blocksTo}
 use Rattle.evidence_builder.specs.Files.{blanks, marks, institutionOf, headerBlock, recordFront, fileOf}
 use Rattle.evidence_builder.proofs.Written.{marks-length, institution-length}
-use Rattle.evidence_writer.specs.Writing.{partsTold, headerTold, itemsTold, lengthTold, evidenceTold, unitTold, recordTold, recordsTold, keyOf, keysTold, decided, writeTold}
+use Rattle.evidence_writer.specs.Writing.{partsTold, headerTold, itemsTold, lengthTold, evidenceTold, unitTold, recordTold, recordsTold, keyOf, keysTold, signedTold, decided, writeTold}
 use Rattle.evidence_writer.proofs.Ends.{header-institution}
 use Rattle.evidence_writer.proofs.Decides.{parts-good}
 
@@ -133,6 +135,11 @@ module _ (date code : List ℕ) (dated : length date ≡ 8) (coded : length code
       other-told (recordTold exempt (headerBlock date code k) code x) (unitsIn x)
       (λ i h. other-test (eqb i limit) (refused 3) _ refl (unit-other exempt x k (placeOf x i) (blocksTo x i) (i + 1)))
 
+-- a frame is told of with 22
+signed-other : (x : List ℕ) → Other (signedTold x)
+unfolding signedTold framesTold frameTold
+signed-other x = other-told (λ i. frameTold x (placeOf x i) (i + 1)) (unitsIn x) (λ i h. other-test (frameGood (sortAt x (placeOf x i)) (evidenceAt x (placeOf x i))) accepted _ refl refl)
+
 -- *Never 5 nor 6*: whatever is given, and in whatever room
 pub never-5-or-6 : (exempt : Bool) (date code x : List ℕ) (room : ℕ) → Never (writeTold exempt date code x room)
 unfolding writeTold decided partsTold keysTold repeatTold
@@ -143,5 +150,6 @@ never-5-or-6 exempt date code x room =
     (other-then _ _ (other-test (eqb (length date) 8 && eqb (length code) 10) accepted (refused 2) refl refl)
     (λ z. other-then _ _ (header-other (headerBlock date code n))
     (λ _. other-then _ _ (records-other date code (parts-good date code z .0) (parts-good date code z .1) exempt x n)
-    (λ _. other-test (ltb (least (repeatsIn (keyOf x)) n) n) _ accepted refl refl))))
+    (λ _. other-then _ _ (other-test (ltb (least (repeatsIn (keyOf x)) n) n) _ accepted refl refl)
+    (λ _. signed-other x)))))
     (λ _. other-test (leb (length (fileOf date code x)) room) accepted (refused 8) refl refl))

@@ -24,7 +24,7 @@ use Rattle.kinds.specs.Kinds.{limit}
 use Rattle.answers.specs.Answers.{accepted}
 use Rattle.answers.specs.Storing.{unlessRefused}
 use Rattle.answers.proofs.Refusals.{number-of, then-second, refuses-not}
-use Rattle.evidence.specs.Blocks.{block, front, blocksFor, blocksIn, lastBlock, dataBlocks, blockAt, lengthAt, kindAt, nextOf, startOf, recordsIn, evidenceLength}
+use Rattle.evidence.specs.Blocks.{block, front, blocksFor, blocksIn, lastBlock, dataBlocks, blockAt, lengthAt, kindAt, nextOf, startOf, recordsIn, evidenceLength, evidenceIn}
 use Rattle.evidence.specs.Judged.{fillerAt, byteOf}
 use Rattle.evidence.specs.Reading.{readOf}
 use Rattle.evidence.specs.Reading as reading
@@ -32,7 +32,8 @@ use Rattle.evidence.specs.Stages.{Stages}
 use Rattle.evidence.proofs.Walks.{block-inside, blocks-enough}
 use Rattle.evidence.proofs.Stages.{stages-exact}
 use Rattle.evidence.proofs.Exact.{start-last}
-use Rattle.evidence_builder.specs.Units.{items, saidAt, sortAt, placeOf, doneAt, saidBy, unitOf, unitsIn, blocksTo}
+use Rattle.evidence_units.specs.Units.{items, saidAt, sortAt, evidenceAt}
+use Rattle.evidence_builder.specs.Units.{placeOf, doneAt, saidBy, unitOf, unitsIn, blocksTo}
 use Rattle.evidence_builder.specs.Files.{blanks, institutionOf, headerBlock, recordFront, recordOf, trailerBlock, fileOf}
 use Rattle.evidence_builder.proofs.Written.{front-length}
 use Rattle.evidence_writer.specs.Writing.{keyOf, decided, writeTold, writeStored, writeAfter}
@@ -219,6 +220,10 @@ module _ (exempt : Bool) (s : List ℕ) (m : Stages exempt s) where
       (ap (λ (y : List ℕ). getD y 61 0) (unit-front i items h (omega arith)) ∙
       (part-at (byteOf s i + 45) items s 61 (omega arith) ∙ ap (λ (a : ℕ). getD s a 0) (omega arith)))
 
+  unit-evidence : (i : ℕ) → i < recordsIn s → evidenceAt (unitsOf s) (placeOf (unitsOf s) i) ≡ evidenceIn s i
+  unfolding evidenceAt evidenceIn saidBy byteOf
+  unit-evidence i h = rw (said i h, places i (omega arith)) (unit-part i items (evidenceLength s i) h (omega arith) ∙ ap (λ (a : ℕ). part a (evidenceLength s i) s) (omega arith))
+
   unit-key : (i : ℕ) → i < recordsIn s → keyOf (unitsOf s) i ≡ reading.keyOf s i
   unfolding keyOf reading.keyOf
   unit-key i h = unit-front i 61 h (omega arith)
@@ -234,6 +239,7 @@ module _ (exempt : Bool) (s : List ℕ) (m : Stages exempt s) where
     each = rw (units-again, header-again) each;
     most = rw (units-again, blocks-again) (omega (arith, m .sizes .most));
     keys = rw units-again (λ i j a b e. m .keys i j a b (sym (unit-key i a) ∙ (e ∙ unit-key j b)));
+    signed = rw units-again (λ i h. rw (unit-sort i h, unit-evidence i h) (m .signed i h));
   }
     where
       each : (i : ℕ) → i < recordsIn s → UnitGood exempt (blockAt s 0) (codeIn s) (unitsOf s) i

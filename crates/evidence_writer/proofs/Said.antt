@@ -16,7 +16,8 @@ use Rattle.text.proofs.Classes.{within-if, each-if}
 use Rattle.numbers.specs.Numbers.{valueOf}
 use Rattle.evidence.specs.Blocks.{block, front, blocksFor}
 use Rattle.evidence.specs.Meets.{evidenceOf, Fits}
-use Rattle.evidence_builder.specs.Units.{items, saidAt, sortAt, placeOf, saidBy, unitOf}
+use Rattle.evidence_units.specs.Units.{items, saidAt, sortAt, evidenceAt}
+use Rattle.evidence_builder.specs.Units.{placeOf, saidBy, unitOf}
 use Rattle.evidence_builder.specs.Files.{blanks, recordFront, recordOf}
 use Rattle.evidence_builder.proofs.Written.{blanks-length, front-length}
 use Rattle.evidence_writer.specs.Writing.{keyOf}
@@ -45,21 +46,21 @@ module _ (code x : List ℕ) (i : ℕ) (coded : length code ≡ 10) (inside : pl
       part-behind (recordFront code (i + 1)) (unitOf x i ++ blanks (left x i)) 45 0 (items + saidBy x i) (front-length code (i + 1) coded) ∙
       part-first (unitOf x i) (blanks (left x i)) (items + saidBy x i) (unit-long x i inside)
 
-  unit-says : (a c : ℕ) → a + c ≤ items → part a c (unitOf x i ++ blanks (left x i)) ≡ part (placeOf x i + a) c x
+  unit-says : (a c : ℕ) → a + c ≤ items + saidBy x i → part a c (unitOf x i ++ blanks (left x i)) ≡ part (placeOf x i + a) c x
   unfolding unitOf
   unit-says a c h =
       part-within (unitOf x i) (blanks (left x i)) a c (omega (arith, unit-long x i inside)) ∙
       part-part a c (placeOf x i) (items + saidBy x i) x (omega arith) inside
 
   -- so its items are those of the unit
-  pub record-says : (a c : ℕ) → a + c ≤ items → part (45 + a) c rec ≡ part (placeOf x i + a) c x
+  pub record-says : (a c : ℕ) → a + c ≤ items + saidBy x i → part (45 + a) c rec ≡ part (placeOf x i + a) c x
   unfolding recordOf
   record-says a c h =
       part-behind (recordFront code (i + 1)) (unitOf x i ++ blanks (left x i)) 45 a c (front-length code (i + 1) coded) ∙ unit-says a c h
 
   pub record-length : evidenceOf rec ≡ saidBy x i
   unfolding saidBy saidAt
-  record-length = ap valueOf (record-says 67 7 (le-refl items))
+  record-length = ap valueOf (record-says 67 7 (omega arith))
 
   pub record-key : part 45 61 rec ≡ keyOf x i
   unfolding keyOf
@@ -72,11 +73,15 @@ module _ (code x : List ℕ) (i : ℕ) (coded : length code ≡ 10) (inside : pl
       (ap (λ (s : List ℕ). getD s 0 0) (record-says 61 1 (omega arith)) ∙
       (part-at (placeOf x i + 61) 1 x 0 (le-refl 1) ∙ ap (λ (p : ℕ). getD x p 0) (add-zero (placeOf x i + 61))))
 
+  pub record-evidence : part front (saidBy x i) rec ≡ evidenceAt x (placeOf x i)
+  unfolding evidenceAt saidBy
+  record-evidence = record-says 74 (saidBy x i) (omega arith)
+
   pub record-front : part 0 front rec ≡ recordFront code (i + 1) ++ part (placeOf x i) items x
   unfolding recordOf
   record-front =
       part-both (recordFront code (i + 1)) (unitOf x i ++ blanks (left x i)) 45 items (front-length code (i + 1) coded) ∙
-      ap (λ (s : List ℕ). recordFront code (i + 1) ++ s) (unit-says 0 items (le-refl items) ∙ ap (λ (p : ℕ). part p items x) (add-zero (placeOf x i)))
+      ap (λ (s : List ℕ). recordFront code (i + 1) ++ s) (unit-says 0 items (omega arith) ∙ ap (λ (p : ℕ). part p items x) (add-zero (placeOf x i)))
 
   -- and behind its evidence are blanks
   pub record-rest : drop (front + saidBy x i) rec ≡ blanks (left x i)

@@ -19,7 +19,8 @@ use Rattle.answers.specs.Answers.{accepted, refused}
 use Rattle.answers.specs.Storing.{unlessRefused}
 use Rattle.answers.proofs.Refusals.{refuses-is, refuses-not, then-first, then-second}
 use Rattle.evidence.specs.Blocks.{block}
-use Rattle.evidence_builder.specs.Units.{items, unitsIn, blocksTo}
+use Rattle.evidence_units.specs.Units.{items}
+use Rattle.evidence_builder.specs.Units.{unitsIn, blocksTo}
 use Rattle.evidence_builder.specs.Files.{headerBlock, recordFront, recordOf, trailerBlock, fileOf}
 use Rattle.evidence_builder.proofs.Written.{front-length}
 use Rattle.evidence_writer.specs.Writing.{decided, writeTold, writeStored, writeOf, writeAfter}

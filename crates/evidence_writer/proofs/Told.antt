@@ -12,9 +12,10 @@ use Rattle.answers.specs.Answers.{accepted, refused, refusesAt, _then_}
 use Rattle.answers.proofs.Refusals.{So-far, number-of, refuses-is, refuses-not, then-first, then-second, told-stop, told-end, all-told}
 use Rattle.kinds.specs.Kinds.{limit}
 use Rattle.evidence.specs.Blocks.{blocksFor, mostBlocks}
-use Rattle.evidence_builder.specs.Units.{items, saidAt, placeOf, unitsIn, saidBy, blocksTo}
+use Rattle.evidence_units.specs.Units.{items, saidAt}
+use Rattle.evidence_builder.specs.Units.{placeOf, unitsIn, saidBy, blocksTo}
 use Rattle.evidence_builder.specs.Files.{headerBlock}
-use Rattle.evidence_writer.specs.Writing.{partsTold, headerTold, unitTold, recordTold, recordsTold, goodTo, keysTold, decided}
+use Rattle.evidence_writer.specs.Writing.{partsTold, headerTold, unitTold, recordTold, recordsTold, goodTo, keysTold, signedTold, decided}
 use Rattle.evidence_writer.proofs.Decides.{unit-good}
 
 -- the unit at place p lies within what is given, and its blocks, behind b, within the most
@@ -77,6 +78,6 @@ module _ (exempt : Bool) (date code x : List ℕ) where
   unfolding decided
   at-header z ne = then-second (partsTold date code) _ z ∙ then-first (headerTold Header) _ ne
 
-  pub at-units : partsTold date code .number ≡ 0 → headerTold Header .number ≡ 0 → decided exempt date code x ≡ (recordsTold exempt Header code x then keysTold x)
+  pub at-units : partsTold date code .number ≡ 0 → headerTold Header .number ≡ 0 → decided exempt date code x ≡ (recordsTold exempt Header code x then (keysTold x then signedTold x))
   unfolding decided
   at-units z h = then-second (partsTold date code) _ z ∙ then-second (headerTold Header) _ h

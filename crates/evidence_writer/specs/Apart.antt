@@ -10,7 +10,8 @@ use Rattle.answers.specs.Answers.{accepted}
 use Rattle.evidence.specs.Blocks.{recordsIn, evidenceLength}
 use Rattle.evidence.specs.Judged.{byteOf}
 use Rattle.evidence.specs.Reading.{readOf}
-use Rattle.evidence_builder.specs.Units.{items, unitOf, unitsIn}
+use Rattle.evidence_units.specs.Units.{items}
+use Rattle.evidence_builder.specs.Units.{unitOf, unitsIn}
 use Rattle.evidence_builder.specs.Files.{fileOf}
 use Rattle.evidence_writer.specs.Writing.{decided, writeTold, writeAfter}
 

@@ -11,15 +11,17 @@ use Rattle.answers.specs.declared.told.Answer.{Answer}
 use Rattle.answers.specs.Answers.{accepted, refused, refusedAt}
 use Rattle.evidence_rows.specs.Tables.{headerRows, dataRows}
 use Rattle.layout.specs.Judging.{brokenAt}
-use Rattle.keys.specs.Keys.{repeatsIn}
+use Rattle.keys.specs.Keys.{repeatsIn, Distinct}
 use Rattle.evidence.specs.Blocks.{mostBlocks, blocksFor}
 use Rattle.evidence.specs.Judged.{lengthGood}
 use Rattle.evidence.specs.Meets.{RowsHold}
 use Rattle.evidence.specs.First.{Broken}
-use Rattle.evidence_builder.specs.Units.{items, sortAt, placeOf, saidBy, unitsIn, blocksTo}
+use Rattle.evidence_units.specs.Units.{items, sortAt, evidenceAt}
+use Rattle.evidence_units.specs.Frames.{SignedIf}
+use Rattle.evidence_builder.specs.Units.{placeOf, saidBy, unitsIn, blocksTo}
 use Rattle.evidence_builder.specs.Files.{headerBlock, recordFront, fileOf}
 use Rattle.evidence_writer.specs.Writing.{keyOf}
-use Rattle.evidence_writer.specs.Given.{UnitGood, Given}
+use Rattle.evidence_writer.specs.Given.{UnitGood, EachSigned, Given}
 
 -- date and code have their lengths
 pub record Parts (date code : List ℕ) : Type 0 where
@@ -86,5 +88,8 @@ pub data Says (exempt : Bool) (date code x : List ℕ) (room : ℕ) : Answer →
   -- 7: all units are good, and unit i is the first whose items 6 to 9 are an earlier one's
   key : (i : ℕ) → Reached exempt date code x (unitsIn x) → unitsIn x ≤ limit → i < unitsIn x → repeatsIn (keyOf x) i ≡ true →
       ((m : ℕ) → m < i → repeatsIn (keyOf x) m ≡ false) → Says exempt date code x room (refusedAt 7 (i + 1) 6 0x30303030)
+  -- 22: no key is an earlier one's, and unit i is the first whose evidence is to be signed and has not the frame
+  frame : (i : ℕ) → Reached exempt date code x (unitsIn x) → unitsIn x ≤ limit → Distinct (keyOf x) (unitsIn x) → i < unitsIn x → EachSigned x i →
+      (SignedIf (sortAt x (placeOf x i)) (evidenceAt x (placeOf x i)) → ⊥) → Says exempt date code x room (refusedAt 22 (i + 1) 13 0x30303030)
   -- 8: what is given meets every rule, and the room is shorter than the file
   room : Given exempt date code x → room < length (fileOf date code x) → Says exempt date code x room (refused 8)

@@ -11,7 +11,9 @@ use Rattle.evidence_rows.specs.Tables.{headerRows, dataRows}
 use Rattle.evidence.specs.Blocks.{mostBlocks}
 use Rattle.evidence.specs.Judged.{lengthGood}
 use Rattle.evidence.specs.Meets.{RowsHold}
-use Rattle.evidence_builder.specs.Units.{items, sortAt, placeOf, saidBy, unitsIn, blocksTo}
+use Rattle.evidence_units.specs.Units.{items, sortAt, evidenceAt}
+use Rattle.evidence_units.specs.Frames.{SignedIf}
+use Rattle.evidence_builder.specs.Units.{placeOf, saidBy, unitsIn, blocksTo}
 use Rattle.evidence_builder.specs.Files.{headerBlock, recordFront}
 use Rattle.evidence_writer.specs.Writing.{keyOf}
 
@@ -21,6 +23,10 @@ pub record UnitGood (exempt : Bool) (header code x : List ℕ) (i : ℕ) : Type 
   pub size : lengthGood exempt (sortAt x (placeOf x i)) (saidBy x i) ≡ true
   pub inside : placeOf x i + (items + saidBy x i) ≤ length x
 
+-- evidence of the first n units that is to be signed has the frame
+abbrev pub EachSigned : List ℕ → ℕ → Type 0
+EachSigned x n = (i : ℕ) → i < n → SignedIf (sortAt x (placeOf x i)) (evidenceAt x (placeOf x i))
+
 pub record Given (exempt : Bool) (date code x : List ℕ) : Type 0 where
   pub date-long : length date ≡ 8
   pub code-long : length code ≡ 10
@@ -29,3 +35,4 @@ pub record Given (exempt : Bool) (date code x : List ℕ) : Type 0 where
   pub each : (i : ℕ) → i < unitsIn x → UnitGood exempt (headerBlock date code (unitsIn x)) code x i
   pub most : blocksTo x (unitsIn x) ≤ mostBlocks
   pub keys : Distinct (keyOf x) (unitsIn x)
+  pub signed : EachSigned x (unitsIn x)

@@ -1,4 +1,4 @@
--- Writing an evidence file, decided before the first byte is stored: 2; the header; unit after unit; 7; 8.
+-- Writing an evidence file, decided before the first byte is stored: 2; the header; unit after unit; 7; 22; 8.
 use Prim.Native.Nat.{ℕ, _+_, _≤_, _<_}
 use mathlib.Core.Bool.{Bool, cond, _&&_}
 use mathlib.Core.List.{List, _++_}
@@ -17,7 +17,9 @@ use Rattle.layout.specs.Judging.{judgeBy}
 use Rattle.evidence.specs.Blocks.{blocksFor, mostBlocks}
 use Rattle.evidence.specs.Judged.{noOwn, lengthGood}
 use Rattle.evidence.specs.Reading.{repeatTold}
-use Rattle.evidence_builder.specs.Units.{items, saidAt, sortAt, placeOf, saidBy, unitsIn, blocksTo}
+use Rattle.evidence_units.specs.Units.{items, saidAt, sortAt}
+use Rattle.evidence_units.specs.Frames.{framesTold}
+use Rattle.evidence_builder.specs.Units.{placeOf, saidBy, unitsIn, blocksTo}
 use Rattle.evidence_builder.specs.Files.{headerBlock, recordFront, fileOf}
 
 -- 2: a date that is not 8 bytes or a code that is not 10
@@ -61,12 +63,16 @@ keyOf x i = part (placeOf x i) 61 x
 unfoldable pub keysTold : List ℕ → Answer
 keysTold x = repeatTold (unitsIn x) (least (repeatsIn (keyOf x)) (unitsIn x))
 
+-- 22 at the first unit whose evidence is to be signed and has not the frame
+unfoldable pub signedTold : List ℕ → Answer
+signedTold x = framesTold x (placeOf x) (unitsIn x)
+
 -- everything but the room
 unfoldable pub decided : Bool → List ℕ → List ℕ → List ℕ → Answer
 decided exempt date code x =
     partsTold date code then
     (headerTold (headerBlock date code (unitsIn x)) then
-    (recordsTold exempt (headerBlock date code (unitsIn x)) code x then keysTold x))
+    (recordsTold exempt (headerBlock date code (unitsIn x)) code x then (keysTold x then signedTold x)))
 
 -- 8 last
 unfoldable pub writeTold : Bool → List ℕ → List ℕ → List ℕ → ℕ → Answer

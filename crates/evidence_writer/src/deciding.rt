@@ -1,11 +1,12 @@
-// Everything but the room: 2; the header; unit after unit; 7.
+// Everything but the room: 2; the header; unit after unit; 7; 22.
 ghost use mathlib.Core.Path.{_≡_};
 ghost use Prim.Native.Nat.{ℕ, _+_, _≤_, _<_};
 ghost use lib.ListN.{length, getD};
 ghost use Rattle.answers.specs.Answers.{_then_};
 ghost use Rattle.kinds.specs.Kinds.{limit};
-ghost use Rattle.evidence_builder.specs.Units.{placeOf, unitsIn, blocksTo};
-ghost use Rattle.evidence_writer.specs.Writing.{partsTold, headerTold, recordsTold, keysTold, decided};
+ghost use Rattle.evidence_units.specs.Units.{items};
+ghost use Rattle.evidence_builder.specs.Units.{placeOf, saidBy, unitsIn, blocksTo};
+ghost use Rattle.evidence_writer.specs.Writing.{partsTold, headerTold, recordsTold, keysTold, signedTold, decided};
 use crate::units_tell;
 use crate::units_tell::Judged;
 use answers::told::Answer;
@@ -14,6 +15,7 @@ use evidence_builder::files;
 use evidence_builder::units;
 use evidence_rows::by_role;
 use evidence_rows::by_role::NO_OWN;
+use evidence_units::framing;
 use keys::repeats;
 use keys::stands::Spacing;
 use keys::table;
@@ -63,11 +65,27 @@ fn keys_tell(x: &[u8], places: &[u32], n: usize) -> Answer
     Answer::accepted()
 }
 
-// Unit after unit against the header, then their keys.
+// The keys, then the frames.
+fn rest_tells(x: &[u8], places: &[u32], n: usize) -> Answer
+    requires { ⌜ n ≤ limit ⌝ }
+    requires { ⌜ n ≤ length (now places) ⌝ }
+    requires { ⌜ n ≡ unitsIn (now x) ⌝ }
+    requires { ⌜ ((i : ℕ) → i < n → getD (now places) i 0 ≡ placeOf (now x) i) ⌝ }
+    requires { ⌜ ((i : ℕ) → i < n → placeOf (now x) i + (items + saidBy (now x) i) ≤ length (now x)) ⌝ }
+    ensures { λ r. ⌜ r ≡ (keysTold (now (x .entry)) then signedTold (now (x .entry))) ⌝ }
+{
+    let of_keys = keys_tell(x, places, n);
+    if of_keys.number != 0 {
+        return of_keys;
+    }
+    framing::frames_tell(x, places, 0, n)
+}
+
+// Unit after unit against the header, then their keys and frames.
 fn decide_units(exempt: bool, header: &[u8], code: &[u8], x: &[u8]) -> Judged
     requires { ⌜ length (now header) ≡ 1024 ⌝ }
     requires { ⌜ length (now code) ≡ 10 ⌝ }
-    ensures { λ r. ⌜ r .answer ≡ (recordsTold exempt (now (header .entry)) (now (code .entry)) (now (x .entry)) then keysTold (now (x .entry))) ⌝ }
+    ensures { λ r. ⌜ r .answer ≡ (recordsTold exempt (now (header .entry)) (now (code .entry)) (now (x .entry)) then (keysTold (now (x .entry)) then signedTold (now (x .entry)))) ⌝ }
     ensures { λ r. ⌜ (r .answer .number ≡ 0 → r .count ≡ unitsIn (now (x .entry))) ⌝ }
     ensures { λ r. ⌜ r .blocks ≡ blocksTo (now (x .entry)) (r .count) ⌝ }
 {
@@ -79,7 +97,7 @@ fn decide_units(exempt: bool, header: &[u8], code: &[u8], x: &[u8]) -> Judged
     let count = judged.count;
     let blocks = judged.blocks;
     Judged {
-        answer: keys_tell(x, &places, count),
+        answer: rest_tells(x, &places, count),
         count,
         blocks,
     }

@@ -14,10 +14,10 @@ use answers::told::Answer;
 use evidence::blocks;
 use evidence::lengths;
 use evidence_builder::files;
-use evidence_builder::units;
-use evidence_builder::units::ITEMS;
 use evidence_rows::by_role;
 use evidence_rows::by_role::NO_OWN;
+use evidence_units::items;
+use evidence_units::items::ITEMS;
 use kinds::of_files::LIMIT;
 use layout::judging;
 use rows::by_record::MOST;
@@ -60,7 +60,7 @@ fn length_tells(exempt: bool, x: &[u8], p: usize, n: u64) -> Answer
     requires { ⌜ p + 74 ≤ length (now x) ⌝ }
     ensures { λ r. ⌜ r ≡ lengthTold exempt (now (x .entry)) p n ⌝ }
 {
-    if lengths::length_good(exempt, parts::byte(x, p + 61), units::said(x, p)) {
+    if lengths::length_good(exempt, parts::byte(x, p + 61), items::said(x, p)) {
         return Answer::accepted();
     }
     Answer::refused_at(4, n, 12, C0103)
@@ -72,7 +72,7 @@ fn evidence_tells(x: &[u8], p: usize, b: usize) -> Answer
     requires { ⌜ b ≤ mostBlocks ⌝ }
     ensures { λ r. ⌜ r ≡ evidenceTold (now (x .entry)) p b ⌝ }
 {
-    let said = units::said(x, p);
+    let said = items::said(x, p);
     if x.len() - p < ITEMS + said {
         return Answer::refused(2);
     }
@@ -150,7 +150,7 @@ pub(crate) fn units_tell(
                 blocks: b,
             };
         }
-        let said = units::said(x, p);
+        let said = items::said(x, p);
         places[i] = p as u32;
         p += ITEMS + said;
         b += blocks::blocks_for(said);

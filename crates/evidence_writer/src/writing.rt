@@ -14,8 +14,8 @@ use answers::told::Stored;
 use evidence::blocks;
 use evidence::blocks::BLOCK;
 use evidence_builder::files;
-use evidence_builder::units;
-use evidence_builder::units::ITEMS;
+use evidence_units::items;
+use evidence_units::items::ITEMS;
 use text::parts;
 
 // Record after record of n units, behind the header.
@@ -30,7 +30,7 @@ fn store_records(x: &[u8], code: &[u8], n: usize, room: &mut [u8])
     let mut at = BLOCK;
     let mut i = 0;
     while i < n {
-        let said = units::said(x, p);
+        let said = items::said(x, p);
         files::put_record(room, at, code, i + 1, parts::part(x, p, ITEMS + said), said);
         p += ITEMS + said;
         at += blocks::blocks_for(said) * BLOCK;

@@ -1,4 +1,4 @@
-//! EI13 beside the enrolments of an EB13. Order: EB13 read, EI13 read, 12, every 20, every 21.
+//! EI13 beside the enrolments of an EB13. Order: EB13 read, EI13 read with its 22, 12, every 20, every 21.
 
 use super::layout::{Profile, KEY_ITEM};
 use super::read::{self, Evidence};

@@ -32,6 +32,12 @@ pub const KEY_LENGTH: usize = 61;
 /// The item at which a fault of the key is placed.
 pub const KEY_ITEM: usize = 6;
 
+/// Item 10 of evidence that must have the frame of a signed file.
+pub const SIGNED: &[u8] = b"2";
+
+/// The item that is the evidence itself.
+pub const EVIDENCE_ITEM: usize = 13;
+
 /// How many blocks a record has whose evidence is this long.
 pub fn blocks(length: usize) -> usize {
     (FRONT_LENGTH + length).div_ceil(BLOCK)

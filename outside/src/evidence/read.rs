@@ -1,14 +1,15 @@
 //! Reading EI13: 2, 3 for too many blocks, then records in file order and items in item order (4 and 5 as met, 3 at the
-//! first record too many), then 6 with the header's count first, then 7.
+//! first record too many), then 6 with the header's count first, then 7, then 22.
 
 use super::layout::{
-    blocks, EvidenceKind, Profile, BLOCK, BUSINESS, FRONT, FRONT_LENGTH, HEADER, KEY_ITEM, MOST_BLOCKS,
-    TRAILER,
+    blocks, EvidenceKind, Profile, BLOCK, BUSINESS, EVIDENCE_ITEM, FRONT, FRONT_LENGTH, HEADER, KEY_ITEM,
+    MOST_BLOCKS, SIGNED, TRAILER,
 };
 use crate::chars::{digits, filled_code_text, institution_code, number, real_full_date, spaces};
 use crate::checked::Checked;
 use crate::layout::{Record, MOST_RECORDS};
 use crate::model::Answer;
+use crate::signed::is_signed;
 use std::collections::HashSet;
 
 /// The answer for one file.
@@ -49,7 +50,14 @@ pub(super) fn open(profile: Profile, file: &[u8]) -> Result<Evidence<'_>, Answer
     let evidence = Evidence { header, data, trailer };
     check_counts(&evidence, file.len() / BLOCK - 2)?;
     check_keys(evidence.data.iter().map(|record| key(&record.front)))?;
+    check_frames(evidence.data.iter().map(|record| (record.front.item(10), record.evidence(file))))?;
     Ok(evidence)
+}
+
+impl Data<'_> {
+    fn evidence<'a>(&self, file: &'a [u8]) -> &'a [u8] {
+        &file[self.start..self.start + self.length]
+    }
 }
 
 /// Whole blocks, at least two, not too many.
@@ -166,6 +174,16 @@ pub(super) fn check_keys<'a>(keys: impl Iterator<Item = &'a [u8]>) -> Result<(),
     for (before, key) in keys.enumerate() {
         if !earlier.insert(key) {
             return Err(Answer::placed(7, before + 1, KEY_ITEM));
+        }
+    }
+    Ok(())
+}
+
+/// Number 22, by item 10 and the evidence of each record: the first that has to be signed, has bytes and no frame.
+pub(super) fn check_frames<'a>(records: impl Iterator<Item = (&'a [u8], &'a [u8])>) -> Result<(), Answer> {
+    for (before, (kind, evidence)) in records.enumerate() {
+        if kind == SIGNED && !evidence.is_empty() && !is_signed(evidence) {
+            return Err(Answer::placed(22, before + 1, EVIDENCE_ITEM));
         }
     }
     Ok(())

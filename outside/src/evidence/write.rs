@@ -1,10 +1,10 @@
 //! Writing EI13. Order: 2 for the date or the code, the header, then record by record 3 for one too many, 2 where it is
-//! cut short, 4, 2 where its evidence is cut, 3 for too many blocks; then 7, then 8.
+//! cut short, 4, 2 where its evidence is cut, 3 for too many blocks; then 7, then 22, then 8.
 
 use super::layout::{
     blocks, Profile, BLOCK, BUSINESS, FRONT, FRONT_LENGTH, GIVEN_LENGTH, HEADER, KEY_LENGTH, MOST_BLOCKS,
 };
-use super::read::{check_given, check_header, check_keys};
+use super::read::{check_frames, check_given, check_header, check_keys};
 use crate::checked::Checked;
 use crate::layout::{Record, MOST_RECORDS};
 use crate::model::Answer;
@@ -60,6 +60,8 @@ fn file_to_be_written<'a>(
     check_header(&Checked::new(Record::new(&header, HEADER), 0))?;
     let given = take_records(profile, code, records)?;
     check_keys(given.iter().map(|record| &record.items[..KEY_LENGTH]))?;
+    // Item 10 is the byte behind the key.
+    check_frames(given.iter().map(|record| (&record.items[KEY_LENGTH..=KEY_LENGTH], record.evidence)))?;
     let file = ToBeWritten { date, code, given };
     if room < file.length() {
         return Err(Answer::without_place(8));

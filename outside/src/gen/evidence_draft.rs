@@ -84,6 +84,6 @@ impl EvidenceDraft {
 }
 
 /// Spaces up to the block's end.
-fn fill_block(file: &mut Vec<u8>) {
+pub(super) fn fill_block(file: &mut Vec<u8>) {
     file.resize(file.len().next_multiple_of(BLOCK), b' ');
 }

@@ -2,6 +2,7 @@
 
 use super::evidence_draft::{EvidenceDraft, Given};
 use super::evidence_places::BLOCK;
+use super::evidence_signed::signed_bytes;
 use super::random::{Rng, SPECIAL_BYTES};
 use super::texts::{code_text, date, decimal, digits, padded, spaces};
 use crate::evidence::layout::Profile;
@@ -65,9 +66,17 @@ pub(super) fn good_given(rng: &mut Rng, profile: Profile, n: usize) -> Given {
     let mut given = Given { items: items.concat(), evidence: vec![] };
     if profile == Profile::Ordinary {
         let length = good_length(rng, kind, n);
-        given.put_evidence(any_evidence_bytes(rng, length));
+        given.put_evidence(good_bytes(rng, kind, length));
     }
     given
+}
+
+/// So many bytes of any sort, or a frame of no more where the kind wants one.
+fn good_bytes(rng: &mut Rng, kind: u8, length: usize) -> Vec<u8> {
+    match kind {
+        b'2' => signed_bytes(rng, length),
+        _ => any_evidence_bytes(rng, length),
+    }
 }
 
 /// A real date of this century.

@@ -4,6 +4,7 @@ use super::draft::Draft;
 use super::evidence_draft::{EvidenceDraft, Given};
 use super::evidence_files::{evidence_file_of, profile_number, too_long};
 use super::evidence_good::{full_date, good_given};
+use super::evidence_signed::unsign;
 use super::evidence_spoiling::spoil_evidence;
 use super::files::{file_of, too_many};
 use super::items::body_item;
@@ -37,7 +38,7 @@ fn two_files(rng: &mut Rng, profile: Profile) -> (Vec<u8>, Vec<u8>) {
     let enrolments = good_request(rng, Kind::EB13);
     let mut evidence = evidence_for(rng, profile, &enrolments);
     let mut spoiled = (false, false);
-    match rng.below(24) {
+    match rng.below(26) {
         0..=2 => {}
         3 => differ_in_header(rng, &mut evidence),
         4..=6 => differ_in_record(rng, profile, &enrolments, &mut evidence),
@@ -51,6 +52,11 @@ fn two_files(rng: &mut Rng, profile: Profile) -> (Vec<u8>, Vec<u8>) {
         }
         9..=15 => spoiled.0 = true,
         16..=22 => spoiled.1 = true,
+        23 => unsign(rng, &mut evidence),
+        24 => {
+            unsign(rng, &mut evidence);
+            differ_in_header(rng, &mut evidence);
+        }
         _ => spoiled = (true, true),
     }
     let (mut enrolments, mut evidence) = (enrolments.file(), evidence.file());

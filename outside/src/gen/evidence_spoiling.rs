@@ -8,6 +8,7 @@ use super::evidence_moved::{
     double_record, insert_block, join, remove_block, remove_record, scramble, swap_blocks, swap_records,
 };
 use super::evidence_places::BLOCK;
+use super::evidence_signed::unsign_file;
 use super::random::Rng;
 use super::units::{cut, shift};
 
@@ -28,7 +29,7 @@ pub fn spoil_evidence(rng: &mut Rng, file: &mut Vec<u8>) {
 }
 
 fn spoil_once(rng: &mut Rng, file: &mut Vec<u8>) {
-    match rng.below(60) {
+    match rng.below(63) {
         0..=9 => change_byte(rng, file),
         10..=31 => change_item(rng, file),
         32..=36 => change_length(rng, file),
@@ -45,6 +46,7 @@ fn spoil_once(rng: &mut Rng, file: &mut Vec<u8>) {
         56 => remove_block(rng, file),
         57 => insert_block(rng, file),
         58 => scramble(rng, file),
+        59..=61 => unsign_file(rng, file),
         _ => shift(rng, file),
     }
 }

@@ -4,6 +4,7 @@ use super::evidence_draft::{given_item, EvidenceDraft};
 use super::evidence_files::{evidence_of_blocks, profile_number};
 use super::evidence_good::{evidence_of, full_date, good_evidence, good_given, most_evidence};
 use super::evidence_places::{evidence_blocks, BLOCK};
+use super::evidence_signed::{signed_bytes, unsign};
 use super::evidence_texts::{some_date, text_for_given};
 use super::lent::any_memory;
 use super::other_texts::text_of_any_class;
@@ -49,7 +50,7 @@ pub fn any_evidence_write(rng: &mut Rng) -> EvidenceWriteInput {
 /// A good file, or one with something wrong in it.
 fn spoiled(rng: &mut Rng, profile: Profile) -> EvidenceDraft {
     let mut draft = good_evidence(rng, profile);
-    match rng.below(12) {
+    match rng.below(14) {
         0..=2 => {}
         3..=6 => change_given(rng, &mut draft),
         7 => copy_key(rng, &mut draft),
@@ -58,6 +59,11 @@ fn spoiled(rng: &mut Rng, profile: Profile) -> EvidenceDraft {
         10 => {
             copy_key(rng, &mut draft);
             change_given(rng, &mut draft);
+        }
+        11 => unsign(rng, &mut draft),
+        12 => {
+            unsign(rng, &mut draft);
+            copy_key(rng, &mut draft);
         }
         _ => {
             change_length(rng, &mut draft);
@@ -118,7 +124,10 @@ fn change_length(rng: &mut Rng, draft: &mut EvidenceDraft) {
         3 => {
             given.put(10, b"2");
             given.put(11, b"DeR  ");
-            given.put_evidence(vec![b'e'; 10_240 + rng.index(2)]);
+            given.put_evidence(match rng.below(3) {
+                0 => signed_bytes(rng, 10_240),
+                more => vec![b'e'; 10_239 + more as usize],
+            });
         }
         _ => given.put(12, &decimal(rng.below(3_000), 7)),
     }

@@ -4,7 +4,7 @@ use super::cases::{
     self, answer as answer_of, bytes, change, draft, enrolment, filled, number, parted, repeated, sides,
     UNWRITTEN,
 };
-use outside::gen::{Draft, EvidenceDraft, Given};
+use outside::gen::{frames, Draft, EvidenceDraft, Given};
 use outside::layout::Kind;
 
 /// One line of the list, by one of its profiles.
@@ -111,8 +111,17 @@ fn given_of(word: &str) -> Given {
     given.put(9, b"20240310");
     given.put(10, &filled(kind, 1));
     given.put(11, &filled(extension, 5));
-    given.put_evidence(vec![b'e'; number(length) as usize]);
+    given.put_evidence(evidence_bytes(length));
     given
+}
+
+fn evidence_bytes(length: &str) -> Vec<u8> {
+    match length.strip_prefix('s') {
+        Some(length) => {
+            frames::flat(number(length) as usize).unwrap_or_else(|| panic!("no frame has {length} bytes"))
+        }
+        None => vec![b'e'; number(length) as usize],
+    }
 }
 
 fn written(input: &str) -> Asked {

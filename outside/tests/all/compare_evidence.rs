@@ -6,7 +6,7 @@ use super::common::{check_coverage, evidence_of_lengths, keep, other_texts, prov
 use outside::bridge::{ask, Call, Queue, Said};
 use outside::coverage::{Counter, Operation};
 use outside::evidence::layout::{Profile, BLOCK, FRONT, FRONT_LENGTH, HEADER, MOST_BLOCKS, TRAILER};
-use outside::gen::{self, Rng};
+use outside::gen::{self, frames, Rng};
 use outside::layout::MOST_RECORDS;
 use outside::shrink::shrink_evidence;
 use outside::{eight_of_part, evidence_part, evidence_read, settings, Answer, EvidencePart};
@@ -15,22 +15,22 @@ use outside::{eight_of_part, evidence_part, evidence_read, settings, Answer, Evi
 
 /// What is asked about a file.
 #[derive(Clone, Copy, Debug)]
-enum Asked {
+pub(super) enum Asked {
     Reading,
     /// The part of a record.
     Part(u64),
 }
 
 /// A file, the number of the profile that it is read by, and what is asked.
-struct Input {
+pub(super) struct Input {
     profile: u32,
     file: Vec<u8>,
     asked: Asked,
 }
 
-type Both = Queue<Input>;
+pub(super) type Both = Queue<Input>;
 
-fn both() -> Both {
+pub(super) fn both() -> Both {
     Queue::new(report)
 }
 
@@ -66,12 +66,12 @@ fn compare(both: &mut Both, profile: u32, file: &[u8], asked: Asked) -> (Answer,
 }
 
 /// The answer of both readers, which must be one.
-fn compare_reading(both: &mut Both, profile: u32, file: &[u8]) -> Answer {
+pub(super) fn compare_reading(both: &mut Both, profile: u32, file: &[u8]) -> Answer {
     compare(both, profile, file, Asked::Reading).0
 }
 
 /// What both say of a part, which must be one: the answer, then case, start and length.
-fn compare_part(both: &mut Both, profile: u32, file: &[u8], record: u64) -> (Answer, [u64; 3]) {
+pub(super) fn compare_part(both: &mut Both, profile: u32, file: &[u8], record: u64) -> (Answer, [u64; 3]) {
     let (told, numbers) = compare(both, profile, file, Asked::Part(record));
     (told, [numbers[5], numbers[6], numbers[7]])
 }
@@ -94,7 +94,8 @@ fn report(&Input { profile, ref file, asked }: &Input) -> ! {
 // ------------------------------------------------------------ generated files
 
 /// Records that no file has, and those that a narrower number would take for small ones.
-const LARGE: [u64; 8] = [430, 431, 1 << 32, (1 << 32) + 1, (1 << 63) - 1, 1 << 63, u64::MAX - 1, u64::MAX];
+pub(super) const LARGE: [u64; 8] =
+    [430, 431, 1 << 32, (1 << 32) + 1, (1 << 63) - 1, 1 << 63, u64::MAX - 1, u64::MAX];
 
 #[test]
 fn generated_files_are_read_alike() {
@@ -321,6 +322,9 @@ fn the_longest_evidence() {
             let mut draft = evidence_of_lengths(&mut rng, &[length, 5]);
             draft.records[0].put(10, &[kind]);
             draft.records[0].put(11, format!("{extension:5}").as_bytes());
+            if kind == b'2' {
+                draft.records[0].put_evidence(frames::flat(length).expect("a frame"));
+            }
             let file = draft.file();
             let told = compare_reading(&mut both, 0, &file);
             let expected = match kind {
@@ -338,7 +342,10 @@ fn the_longest_evidence() {
 #[test]
 fn every_extension() {
     let (mut both, mut rng) = (both(), Rng::new(settings::seed()));
-    let good = evidence_of_lengths(&mut rng, &[9]).file();
+    let mut draft = evidence_of_lengths(&mut rng, &[9]);
+    // Kind "2" wants a frame, the others take it.
+    draft.records[0].put_evidence(frames::frame_of(b""));
+    let good = draft.file();
     let mut accepted = 0;
     for kind in b'0'..=b'7' {
         let mut file = good.clone();

@@ -14,15 +14,15 @@ use outside::{evidence_compare, evidence_read, read, settings, Answer};
 // ------------------------------------------------------------------ two files
 
 /// An EB13 and an EI13, and the number of the profile.
-struct Input {
+pub(super) struct Input {
     profile: u32,
     enrolments: Vec<u8>,
     evidence: Vec<u8>,
 }
 
-type Both = Queue<Input>;
+pub(super) type Both = Queue<Input>;
 
-fn both() -> Both {
+pub(super) fn both() -> Both {
     Queue::new(report)
 }
 
@@ -31,7 +31,7 @@ fn said(told: &Answer) -> Said {
 }
 
 /// What both say, which must be one.
-fn compare(both: &mut Both, profile: u32, enrolments: &[u8], evidence: &[u8]) -> Answer {
+pub(super) fn compare(both: &mut Both, profile: u32, enrolments: &[u8], evidence: &[u8]) -> Answer {
     let told = evidence_compare(profile, enrolments, evidence);
     let input = Input { profile, enrolments: enrolments.to_vec(), evidence: evidence.to_vec() };
     both.push(input, Call::evidence_compare(profile, enrolments, evidence), said(&told));
@@ -78,7 +78,7 @@ fn generated_files() {
 // ------------------------------------------------------------------ every one
 
 /// Good enrolments of these kinds, and evidence for each of them in their order, also where none belongs.
-fn enrolments_of(rng: &mut Rng, profile: Profile, kinds: &[u8]) -> (Draft, EvidenceDraft) {
+pub(super) fn enrolments_of(rng: &mut Rng, profile: Profile, kinds: &[u8]) -> (Draft, EvidenceDraft) {
     let mut enrolments = gen::request_of(rng, Kind::EB13, kinds.len());
     let item = |item| body_item(Kind::EB13, item);
     for (before, body) in enrolments.bodies.iter_mut().enumerate() {

@@ -12,11 +12,11 @@ use outside::proved::{self, EvidenceParts};
 use outside::{evidence_write, settings, six, Answer};
 
 /// Answer, length of the file, and the room afterwards.
-type Written = (Answer, u64, Vec<u8>);
+pub(super) type Written = (Answer, u64, Vec<u8>);
 
-type Both = Queue<EvidenceWriteInput>;
+pub(super) type Both = Queue<EvidenceWriteInput>;
 
-fn both() -> Both {
+pub(super) fn both() -> Both {
     Queue::new(report)
 }
 
@@ -37,7 +37,7 @@ fn said((told, length, room): &Written) -> Said {
 }
 
 /// What both say and leave in the room, which must be one.
-fn compare(both: &mut Both, input: EvidenceWriteInput) -> Written {
+pub(super) fn compare(both: &mut Both, input: EvidenceWriteInput) -> Written {
     let written = ours(&input);
     let call = call(&input);
     both.push(input, call, said(&written));
@@ -103,11 +103,16 @@ fn generated_inputs_are_written_alike() {
 // ------------------------------------------------------------------ every one
 
 /// Bytes that no file has where it is filled.
-fn unwritten(length: usize) -> Vec<u8> {
+pub(super) fn unwritten(length: usize) -> Vec<u8> {
     vec![0xc3; length]
 }
 
-fn input(profile: u32, draft: &EvidenceDraft, records: &[u8], room: usize) -> EvidenceWriteInput {
+pub(super) fn input(
+    profile: u32,
+    draft: &EvidenceDraft,
+    records: &[u8],
+    room: usize,
+) -> EvidenceWriteInput {
     EvidenceWriteInput {
         profile,
         date: draft.date.clone(),
@@ -290,6 +295,19 @@ fn taken_apart(profile: u32, file: &[u8], n: usize) -> Vec<u8> {
 }
 
 /// The library's own parts, with the date and the code where the face says that they stand, make the file again.
+pub(super) fn check_written_again(number: u32, draft: &EvidenceDraft) {
+    let file = draft.file();
+    let records = taken_apart(number, &file, draft.records.len());
+    assert!(records == draft.given(), "what was given");
+    let parts = EvidenceParts { date: &file[15..=22], code: &file[23..=32], records: &records };
+    let mut room = unwritten(file.len());
+    let told = proved::evidence_write(number, &parts, &mut room);
+    assert_eq!((told[1], told[5]), (0, file.len() as u64));
+    if room != file {
+        panic!("written again it is another one: {}", keep("differs-written-again", &file).display());
+    }
+}
+
 #[test]
 fn a_file_that_is_taken_apart_is_written_again() {
     let mut rng = Rng::new(settings::seed());
@@ -300,16 +318,6 @@ fn a_file_that_is_taken_apart_is_written_again() {
             0 if profile == Profile::Ordinary => 60,
             _ => rng.index(7),
         };
-        let draft = gen::evidence_of(&mut rng, profile, n);
-        let file = draft.file();
-        let records = taken_apart(number, &file, n);
-        assert!(records == draft.given(), "what was given");
-        let parts = EvidenceParts { date: &file[15..=22], code: &file[23..=32], records: &records };
-        let mut room = unwritten(file.len());
-        let told = proved::evidence_write(number, &parts, &mut room);
-        assert_eq!((told[1], told[5]), (0, file.len() as u64));
-        if room != file {
-            panic!("written again it is another one: {}", keep("differs-written-again", &file).display());
-        }
+        check_written_again(number, &gen::evidence_of(&mut rng, profile, n));
     }
 }

@@ -381,7 +381,10 @@ fn evidence_rules(of: &Texts, profile: &str, role: &str) -> Vec<Rule> {
         counts(&of(EVIDENCE_READING), role)
     };
     beside.into_iter().for_each(|rule| insert(&mut rules, rule));
-    rules.extend(if role == "Data" { behind_rows(&of(EVIDENCE_JUDGED)) } else { Vec::new() });
+    if role == "Data" {
+        rules.extend(behind_rows(&of(EVIDENCE_JUDGED)));
+        frames(&of(EVIDENCE_FRAMES), exempt).into_iter().for_each(|rule| insert(&mut rules, rule));
+    }
     rules
 }
 
@@ -400,7 +403,7 @@ fn lengths(judged: &Definitions, exempt: bool) -> Vec<Rule> {
     [good, "no more than the data blocks hold"].map(|words| asked(12, (113, 119), words, "0103")).to_vec()
 }
 
-/// The items behind the rows of a data record: the evidence, of which nothing is asked, and the filler.
+/// The items behind the rows of a data record: the evidence, of which nothing is asked there, and the filler.
 fn behind_rows(judged: &Definitions) -> Vec<Rule> {
     judged.is("fillerAt s b = part (b * block + (front + lengthAt s b)) \
         (blocksFor (lengthAt s b) * block - (front + lengthAt s b)) s");
@@ -408,6 +411,21 @@ fn behind_rows(judged: &Definitions) -> Vec<Rule> {
     judged.is("blockTold exempt s b n = \
         itemsTold exempt s b n then (lengthTold exempt s b n then fillerTold s b n)");
     vec![asked(13, THE_EVIDENCE.1, "any bytes", NOTHING), asked(14, BEHIND_IT.1, "only spaces", "0089")]
+}
+
+/// What signed evidence is held to; who is partly exempt has none.
+fn frames(frames: &Definitions, exempt: bool) -> Vec<Rule> {
+    frames.is(
+        "frameGood kind evidence = not (eqb kind 0x32) || (eqb (length evidence) 0 || isSigned evidence)",
+    );
+    frames.is("frameTold x p n = \
+        cond (frameGood (sortAt x p) (evidenceAt x p)) accepted (refusedAt 22 n 13 0x30303030)");
+    let words = "the frame of signed data where the kind is \"2\"";
+    if exempt {
+        Vec::new()
+    } else {
+        vec![asked(13, THE_EVIDENCE.1, words, "refusal 22")]
+    }
 }
 
 /// What the counts of a header or trailer of evidence are held to.
@@ -570,13 +588,14 @@ fn rules(row: &[&str], kind: &str, kinds: &[&str]) -> Vec<Rule> {
     found
 }
 
-const TEXTS: [&str; 9] = [
+const TEXTS: [&str; 10] = [
     "How to look a refusal up",
     "How to look a refusal of evidence up",
     "The words of the rules",
     FORMS_TITLE,
     BLOCKS_TITLE,
     KINDS_TITLE,
+    FRAME_TITLE,
     AGREEING_TITLE,
     DAY_TITLE,
     ANSWER_TITLE,
@@ -584,6 +603,7 @@ const TEXTS: [&str; 9] = [
 pub const FORMS_TITLE: &str = "The three forms of passbook text";
 const BLOCKS_TITLE: &str = "EI13: profiles and blocks";
 const KINDS_TITLE: &str = "EI13: kinds of evidence";
+pub const FRAME_TITLE: &str = "EI13: the frame of signed data";
 const AGREEING_TITLE: &str = "EI13 beside EB13";
 pub const DAY_TITLE: &str = "Day files";
 const ANSWER_TITLE: &str = "EB12 beside EB11";
@@ -719,6 +739,7 @@ const EVIDENCE_KINDS: &str = "crates/evidence_kinds/specs/Evidence.antt";
 const EVIDENCE_BLOCKS: &str = "crates/evidence/specs/Blocks.antt";
 const EVIDENCE_JUDGED: &str = "crates/evidence/specs/Judged.antt";
 const EVIDENCE_READING: &str = "crates/evidence/specs/Reading.antt";
+const EVIDENCE_FRAMES: &str = "crates/evidence_units/specs/Frames.antt";
 const COMPARING: &str = "crates/consent/specs/Comparing.antt";
 
 fn definitions(path: &str) -> Definitions {
@@ -961,6 +982,12 @@ fn a_changed_length_of_evidence_is_noticed() {
 #[should_panic(expected = "not understood: countsTold")]
 fn a_changed_count_of_evidence_is_noticed() {
     library_with(EVIDENCE_READING, |reading| changed(&reading, "says (part 43 7", "says (part 44 7"));
+}
+
+#[test]
+#[should_panic(expected = "not understood: frameGood")]
+fn a_changed_kind_of_signed_evidence_is_noticed() {
+    library_with(EVIDENCE_FRAMES, |frames| changed(&frames, "not (eqb kind 0x32)", "not (eqb kind 0x36)"));
 }
 
 #[test]

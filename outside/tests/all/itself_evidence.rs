@@ -3,6 +3,7 @@
 
 use super::itself::{accepted, answer, enrolment, file as enrolment_file, put as put_in};
 use outside::evidence::layout::{self, Profile};
+use outside::gen::frames;
 use outside::{
     eight_of_part, evidence_compare, evidence_part, evidence_read, evidence_write, six, Answer,
     EvidencePart,
@@ -11,14 +12,14 @@ use outside::{
 // ------------------------------------------------------------------- builders
 // Written with Rust's padding, without any help from the crate.
 
-const ORDINARY: u32 = 0;
-const EXEMPT: u32 = 1;
+pub(super) const ORDINARY: u32 = 0;
+pub(super) const EXEMPT: u32 = 1;
 
 const CODE: &str = "9912345678";
 const DATE: &str = "20240315";
 
 /// Items 6 to 12, and the evidence.
-type Given = (Vec<u8>, Vec<u8>);
+pub(super) type Given = (Vec<u8>, Vec<u8>);
 
 /// Items 6 to 12: payer, kind, extension, length.
 fn items(payer: &str, kind: &str, extension: &str, length: usize) -> Vec<u8> {
@@ -30,17 +31,21 @@ fn items(payer: &str, kind: &str, extension: &str, length: usize) -> Vec<u8> {
     items.into_bytes()
 }
 
-fn given(payer: &str, kind: &str, extension: &str, evidence: &[u8]) -> Given {
+pub(super) fn given(payer: &str, kind: &str, extension: &str, evidence: &[u8]) -> Given {
     (items(payer, kind, extension, evidence.len()), evidence.to_vec())
 }
 
+/// The shortest file that has the frame of a signed one.
+pub(super) const FRAME: [u8; 17] =
+    [0x30, 0x0f, 0x06, 0x09, 0x2a, 0x86, 0x48, 0x86, 0xf7, 0x0d, 0x01, 0x07, 0x02, 0xa0, 0x02, 0x30, 0x00];
+
 /// A photograph of so many bytes.
-fn photo(payer: &str, length: usize) -> Given {
+pub(super) fn photo(payer: &str, length: usize) -> Given {
     given(payer, "1", "jpg", &vec![0xd8; length])
 }
 
 /// A record of a partly exempt institution.
-fn exempt(payer: &str) -> Given {
+pub(super) fn exempt(payer: &str) -> Given {
     given(payer, "1", "", b"")
 }
 
@@ -63,7 +68,7 @@ fn trailer(n: usize, blocks: usize) -> Vec<u8> {
     format!("AE1112339999999{CODE:20}{n:07}{blocks:010}{:972}", "").into_bytes()
 }
 
-fn file(records: &[Given]) -> Vec<u8> {
+pub(super) fn file(records: &[Given]) -> Vec<u8> {
     let n = records.len();
     let mut file = header(n);
     for (before, given) in records.iter().enumerate() {
@@ -75,29 +80,29 @@ fn file(records: &[Given]) -> Vec<u8> {
 }
 
 /// Bytes put into a file at a place.
-fn put(file: &[u8], at: usize, text: &[u8]) -> Vec<u8> {
+pub(super) fn put(file: &[u8], at: usize, text: &[u8]) -> Vec<u8> {
     let mut file = file.to_vec();
     file[at..at + text.len()].copy_from_slice(text);
     file
 }
 
 /// What the writer is given.
-fn joined(records: &[Given]) -> Vec<u8> {
+pub(super) fn joined(records: &[Given]) -> Vec<u8> {
     records.iter().flat_map(|(items, evidence)| [&items[..], evidence].concat()).collect()
 }
 
 /// The writer's answer, the length that it says, and a room of this length afterwards.
-fn written(profile: u32, records: &[u8], room: usize) -> (Answer, u64, Vec<u8>) {
+pub(super) fn written(profile: u32, records: &[u8], room: usize) -> (Answer, u64, Vec<u8>) {
     let mut room = vec![0xEE; room];
     let (told, length) = evidence_write(profile, DATE.as_bytes(), CODE.as_bytes(), records, &mut room);
     (told, length, room)
 }
 
-fn write_answer(profile: u32, records: &[Given]) -> Answer {
+pub(super) fn write_answer(profile: u32, records: &[Given]) -> Answer {
     written(profile, &joined(records), 5_000_000).0
 }
 
-fn two() -> Answer {
+pub(super) fn two() -> Answer {
     answer(0, 2, 0, 0, "0000")
 }
 
@@ -105,12 +110,12 @@ fn three() -> Answer {
     answer(0, 3, 0, 0, "0000")
 }
 
-fn eight() -> Answer {
+pub(super) fn eight() -> Answer {
     answer(0, 8, 0, 0, "0000")
 }
 
 /// Number 4 at a data record.
-fn broken(record: u64, item: u64, code: &str) -> Answer {
+pub(super) fn broken(record: u64, item: u64, code: &str) -> Answer {
     answer(0, 4, record, item, code)
 }
 
@@ -282,7 +287,7 @@ fn every_case(name: &str) -> Vec<String> {
 #[test]
 fn q1f_extensions() {
     let told = |kind: &str, extension: &str| {
-        let record = given("A", kind, extension, b"e");
+        let record = given("A", kind, extension, &FRAME);
         let read = evidence_read(ORDINARY, &file(std::slice::from_ref(&record)));
         assert_eq!(write_answer(ORDINARY, &[record]), read, "the writer");
         read
@@ -314,10 +319,16 @@ fn q1f_extensions() {
 fn q1g_sizes() {
     for (kind, extensions, most) in PAPER {
         let extension = extensions.split(' ').next().unwrap();
+        // No frame is shorter.
+        let least = if kind == "2" { 17 } else { 1 };
         for (length, fits) in
-            [(1, true), (most - 1, true), (most, true), (most + 1, false), (most + 1_024, false)]
+            [(least, true), (most - 1, true), (most, true), (most + 1, false), (most + 1_024, false)]
         {
-            let record = given("A", kind, extension, &vec![0x30; length]);
+            let evidence = match kind {
+                "2" => frames::flat(length).expect("a frame"),
+                _ => vec![0x30; length],
+            };
+            let record = given("A", kind, extension, &evidence);
             let wanted = if fits { accepted() } else { broken(1, 12, "0103") };
             let whole = file(std::slice::from_ref(&record));
             assert_eq!(evidence_read(ORDINARY, &whole), wanted, "{kind} {length}");
@@ -750,7 +761,7 @@ fn evidence_of(payers: &[&str]) -> Vec<u8> {
 }
 
 /// Enrolments of these kinds and payers.
-fn enrolments_of(enrolments: &[(&str, &str)]) -> Vec<u8> {
+pub(super) fn enrolments_of(enrolments: &[(&str, &str)]) -> Vec<u8> {
     let bodies: Vec<_> = enrolments.iter().map(|(kind, payer)| enrolment(kind, payer, "")).collect();
     enrolment_file("EB13", &bodies)
 }
@@ -889,7 +900,7 @@ fn q1v_other_papers() {
     for kind in ["0", "7", "8", "9", " ", "A", "\0"] {
         assert_eq!(evidence_read(ORDINARY, &file(&[given("A", kind, "jpg", b"e")])), broken(1, 10, "0101"));
     }
-    let over_five = given("A", "2", "der", &vec![0x30; 5 * 1_024 + 1]);
+    let over_five = given("A", "2", "der", &frames::flat(5 * 1_024 + 1).expect("a frame"));
     assert_eq!(evidence_read(ORDINARY, &file(&[over_five])), accepted());
 }
 
@@ -1016,22 +1027,27 @@ fn taken_apart(profile: u32, file: &[u8]) -> Vec<Given> {
 #[test]
 fn both_round_trips() {
     let sound = given("S", "5", "wAv", &vec![7; 3_000]);
+    let signed = given("T", "2", "Der", &FRAME);
     for (profile, records) in [
         (ORDINARY, vec![]),
-        (ORDINARY, vec![photo("A", 905), photo("B", 906), sound, photo("D", 1)]),
+        (ORDINARY, vec![photo("A", 905), photo("B", 906), sound, signed, photo("D", 1)]),
         (ORDINARY, many_records(430)),
         (ORDINARY, many_blocks(0)),
         (EXEMPT, vec![]),
         (EXEMPT, (1..=430).map(|k| exempt(&format!("P{k}"))).collect()),
     ] {
-        let whole = file(&records);
-        let (told, length, room) = written(profile, &joined(&records), whole.len());
-        assert_eq!((told, length), (accepted(), whole.len() as u64));
-        assert!(room == whole, "what is written");
-        let parts = taken_apart(profile, &room);
-        assert!(parts == records, "what is written and taken apart");
-        let (told, length, again) = written(profile, &joined(&parts), whole.len());
-        assert_eq!((told, length), (accepted(), whole.len() as u64));
-        assert!(again == whole, "what is taken apart and written again");
+        check_round_trips(profile, &records);
     }
+}
+
+pub(super) fn check_round_trips(profile: u32, records: &[Given]) {
+    let whole = file(records);
+    let (told, length, room) = written(profile, &joined(records), whole.len());
+    assert_eq!((told, length), (accepted(), whole.len() as u64));
+    assert!(room == whole, "what is written");
+    let parts = taken_apart(profile, &room);
+    assert!(parts == records, "what is written and taken apart");
+    let (told, length, again) = written(profile, &joined(&parts), whole.len());
+    assert_eq!((told, length), (accepted(), whole.len() as u64));
+    assert!(again == whole, "what is taken apart and written again");
 }

@@ -7,7 +7,7 @@ use outside::coverage::{Counter, Operation};
 use outside::evidence::layout::Profile;
 use outside::gen::{self, EvidenceWriteInput, Rng};
 use outside::layout::MOST_RECORDS;
-use outside::{evidence_compare, evidence_part, evidence_read, evidence_write, read, settings};
+use outside::{evidence_compare, evidence_part, evidence_read, evidence_write, is_signed, read, settings};
 use outside::{Answer, EvidencePart};
 
 /// What was seen besides the coverage list.
@@ -30,6 +30,9 @@ struct Seen {
     written_too_many_blocks: u64,
     written_too_many_records: u64,
     several_missing: u64,
+    signed: u64,
+    not_signed: u64,
+    several_not_signed: u64,
 }
 
 struct Run {
@@ -68,6 +71,9 @@ fn generated_inputs() {
             seen.written_too_many_blocks,
             seen.written_too_many_records,
             seen.several_missing,
+            seen.signed,
+            seen.not_signed,
+            seen.several_not_signed,
         ] {
             assert!(times > 0, "{seen:?}");
         }
@@ -85,6 +91,7 @@ impl Run {
         self.counter.note(Operation::EvidenceRead(Profile::of(number)), &told, n as u64);
         self.note_causes(&file, &told);
         self.check_places(number, &file, &told, n);
+        self.check_signed(number, &file, &told);
         if told.is_accepted() {
             self.seen.accepted_files += 1;
             self.seen.most_records = self.seen.most_records.max(n);
@@ -109,7 +116,7 @@ impl Run {
         }
         if told.code == *b"0103" {
             let at = gen::evidence_records(file)[told.record as usize - 1].start;
-            let length: usize = std::str::from_utf8(&file[at + 112..at + 119]).unwrap().parse().unwrap();
+            let length = said_length(file, at);
             let left = file.len() - 1_024 - at;
             if length == 0 {
                 self.seen.length_zero += 1;
@@ -163,13 +170,46 @@ impl Run {
         assert_eq!(evidence_read(number, &changed).number, 6);
     }
 
-    /// What the evidence is does not matter; of all else one byte more or less does, but for a few items.
+    /// What the evidence is does not matter, but for the frame of that which must be signed.
     fn check_changed_evidence(&mut self, number: u32, file: &[u8], parts: &[(usize, usize)]) {
         let mut changed = file.to_vec();
-        for &(start, length) in parts {
+        let (signed, others): (Vec<_>, Vec<_>) =
+            parts.iter().enumerate().partition(|(_, (start, _))| file[start - 13] == b'2');
+        for (_, &(start, length)) in others {
             changed[start..start + length].iter_mut().for_each(|byte| *byte = self.rng.byte());
         }
         assert!(evidence_read(number, &changed).is_accepted());
+        if Profile::of(number) == Profile::PartlyExempt || signed.is_empty() {
+            return;
+        }
+        self.seen.signed += 1;
+        let (before, &(start, length)) = self.rng.pick(&signed);
+        // Random bytes have no frame, of which eleven bytes are always the same.
+        changed[start..start + length].iter_mut().for_each(|byte| *byte = self.rng.byte());
+        assert_eq!(evidence_read(number, &changed), Answer::placed(22, before + 1, 13));
+    }
+
+    /// 22 is told exactly where all else is right, at the first record of kind "2" without a frame.
+    fn check_signed(&mut self, number: u32, file: &[u8], told: &Answer) {
+        if told.number != 22 && !told.is_accepted() {
+            return;
+        }
+        let mut unasked = file.to_vec();
+        let mut bad = Vec::new();
+        for (before, record) in gen::evidence_records(file).into_iter().enumerate() {
+            let record = record.start;
+            let end = record + 119 + said_length(file, record);
+            if file[record + 106] == b'2' {
+                unasked[record + 106] = b'6';
+                bad.extend((end > record + 119 && !is_signed(&file[record + 119..end])).then_some(before));
+            }
+        }
+        // Kind "6" may have all that kind "2" may.
+        assert!(evidence_read(number, &unasked).is_accepted());
+        let expected = bad.first().map_or(Answer::accepted(), |before| Answer::placed(22, before + 1, 13));
+        assert_eq!(*told, expected);
+        self.seen.not_signed += u64::from(!bad.is_empty());
+        self.seen.several_not_signed += u64::from(bad.len() > 1);
     }
 
     // ---- one write
@@ -255,6 +295,11 @@ impl Run {
     }
 }
 
+/// Item 12 of the record that begins there.
+fn said_length(file: &[u8], record: usize) -> usize {
+    std::str::from_utf8(&file[record + 112..record + 119]).unwrap().parse().unwrap()
+}
+
 /// A record of evidence belongs to an enrolment.
 fn belongs(enrolment: &[u8], evidence: &[u8]) -> bool {
     enrolment[25] == b'1'
@@ -275,9 +320,7 @@ fn check_parts(number: u32, file: &[u8], n: usize) -> Vec<(usize, usize)> {
     let asked: Vec<usize> = if n <= 20 { (1..=n).collect() } else { vec![1, 2, n / 2, n - 1, n] };
     let records = gen::evidence_records(file);
     for (before, record) in records.iter().enumerate() {
-        let length: usize =
-            std::str::from_utf8(&file[record.start + 112..record.start + 119]).unwrap().parse().unwrap();
-        let (start, length) = (record.start + 119, length);
+        let (start, length) = (record.start + 119, said_length(file, record.start));
         if asked.contains(&(before + 1)) {
             let part = EvidencePart::Part { start: start as u64, length: length as u64 };
             assert_eq!(evidence_part(number, file, before as u64 + 1), (Answer::accepted(), part));

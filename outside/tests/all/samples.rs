@@ -6,7 +6,7 @@ use outside::layout::{is_centre_code, Kind};
 use outside::model::code_number;
 use outside::{
     day_body, day_read, eight_of_day, eight_of_part, evidence_compare, evidence_part, evidence_read, gen,
-    pair, proved, read, seven, six, ten_of_body, two_results, write_eb12, EvidencePart,
+    is_signed, pair, proved, read, seven, six, ten_of_body, two_results, write_eb12,
 };
 use std::ffi::OsString;
 use std::path::{Path, PathBuf};
@@ -16,7 +16,7 @@ use std::process::Command;
 struct Sample {
     name: String,
     files: Files,
-    /// The kind or pair; of consent evidence the profile, and of a day file or an EB11 that is answered nothing.
+    /// The kind or pair; of consent evidence the profile, and of one evidence, a day file or an EB11 that is answered nothing.
     number: u32,
     expected: String,
 }
@@ -29,6 +29,8 @@ enum Files {
     /// Enrolments, and the evidence for them.
     Consent(Vec<u8>, Vec<u8>),
     Day(Vec<u8>),
+    /// One evidence, asked for its frame.
+    Signed(Vec<u8>),
     Answered(AnsweredFiles),
     /// A request and two results.
     TwoResults([Vec<u8>; 3]),
@@ -59,7 +61,7 @@ impl Files {
             Files::Answered(AnsweredFiles { eb11, answers, eb12 }) => {
                 [eb11, answers.as_bytes()].into_iter().chain(eb12.as_deref()).collect()
             }
-            Files::One(file) | Files::Evidence(file) | Files::Day(file) => vec![file],
+            Files::One(file) | Files::Evidence(file) | Files::Day(file) | Files::Signed(file) => vec![file],
             Files::TwoResults(files) => files.iter().map(|file| &file[..]).collect(),
             Files::Pair(one, other) | Files::Consent(one, other) => vec![one, other],
         }
@@ -108,6 +110,7 @@ fn sample(text: &Path) -> Sample {
         Some(_) if is_there("file") => Files::Evidence(bytes("file")),
         Some(_) => Files::Consent(bytes("enrolments"), bytes("evidence")),
         None if word == "DAY" => Files::Day(bytes("file")),
+        None if word == "SIGNED" => Files::Signed(bytes("file")),
         None if is_there("eb11") => Files::Answered(AnsweredFiles {
             eb11: bytes("eb11"),
             answers: String::from_utf8(bytes("answers")).expect("words"),
@@ -118,7 +121,7 @@ fn sample(text: &Path) -> Sample {
         None => Files::Pair(bytes("request"), bytes("result")),
     };
     let kind = || match word {
-        "DAY" => 0,
+        "DAY" | "SIGNED" => 0,
         _ => u32::from_be_bytes(word.as_bytes().try_into().expect("four letters")),
     };
     Sample {
@@ -247,6 +250,12 @@ fn said(sample: &Sample) -> [String; 2] {
                 day_line(file, eight_of_day(&answer, bodies), ours),
                 day_line(file, proved::day_read(file), theirs),
             ]
+        }
+        Files::Signed(bytes) => {
+            let word = |yes: bool| if yes { "yes" } else { "no" }.to_string();
+            let theirs = proved::signed(bytes);
+            assert!(theirs <= 1, "{theirs}");
+            [word(is_signed(bytes)), word(theirs == 1)]
         }
         Files::Answered(files) => {
             let answers = files.numbers();
@@ -404,10 +413,10 @@ fn the_samples_of_evidence_are_many_enough() {
     {
         any(false, ORDINARY, &format!("refused 0 {told}"));
     }
-    for told in ["5 2 5", "6 0 6", "6 3 6", "7 3 6"] {
+    for told in ["5 2 5", "6 0 6", "6 3 6", "7 3 6", "22 1 13", "22 2 13"] {
         any(false, ORDINARY, &format!("refused 0 {told} 0000"));
     }
-    for told in ["1 2 0 0", "2 2 0 0", "0 12 0 3", "0 12 0 5", "0 20 3 6", "0 21 2 6"] {
+    for told in ["1 2 0 0", "2 2 0 0", "2 22 2 13", "0 12 0 3", "0 12 0 5", "0 20 3 6", "0 21 2 6"] {
         any(true, ORDINARY, &format!("refused {told} 0000"));
     }
 }
@@ -504,19 +513,37 @@ fn debits<'a>(sample: &'a Sample, kinds: [&[u8; 4]; 2]) -> Vec<(&'a [u8], &'a [u
         .collect()
 }
 
-/// What the rules leave open today is chosen so that a stricter reading would not refuse it.
+/// Evidence of kind "2" has a frame in every accepted sample, and where 22 is told not in that record, but in all before it.
 #[test]
-fn the_samples_keep_stricter_rules_too() {
-    let mut seen = 0;
+fn the_samples_have_signed_evidence_in_a_frame() {
+    let mut seen = [0, 0];
     for sample in samples() {
-        if let Files::Evidence(file) | Files::Consent(_, file) = &sample.files {
-            for kind in kinds_of_evidence(sample.number, file) {
-                assert_ne!(kind, b'2', "evidence of {} that is not signed", sample.name);
-                seen += 1;
+        let (Files::Evidence(file) | Files::Consent(_, file)) = &sample.files else { continue };
+        let words: Vec<&str> = sample.expected.split(' ').collect();
+        let told_of = match words[..] {
+            ["refused", _, "22", record, ..] => record.parse().expect("a number"),
+            ["accepted", ..] => usize::MAX,
+            _ => continue,
+        };
+        for (before, (kind, evidence)) in evidence_in(file).into_iter().enumerate() {
+            if kind == b'2' && !evidence.is_empty() && before < told_of {
+                let has_frame = is_signed(evidence);
+                assert_eq!(has_frame, before + 1 != told_of, "evidence {} of {}", before + 1, sample.name);
+                seen[usize::from(has_frame)] += 1;
             }
         }
     }
-    assert!(seen > 10, "{seen}");
+    assert!(seen[0] >= 5 && seen[1] >= 5, "{seen:?}");
+}
+
+/// The same of one evidence: yes and no, each for more than one reason.
+#[test]
+fn the_samples_of_frames_are_many_enough() {
+    let samples = samples();
+    for (word, most) in [("yes", 3), ("no", 9)] {
+        let of = |sample: &&Sample| matches!(sample.files, Files::Signed(_)) && sample.expected == word;
+        assert!(samples.iter().filter(of).count() >= most, "{word}");
+    }
 }
 
 /// Item 9 of every EB21 and EC21 is in one of the three forms, whatever else is wrong with the sample, but for those that are
@@ -569,14 +596,11 @@ fn the_samples_count_what_the_centre_refused() {
     assert!(seen[0] >= 5 && seen[1] > 20, "{seen:?}");
 }
 
-/// Item 10 of every record of an accepted file that has evidence.
-fn kinds_of_evidence(profile: u32, file: &[u8]) -> Vec<u8> {
-    let parts = (1..).map(|record| evidence_part(profile, file, record).1);
-    let parts = parts.map_while(|part| match part {
-        EvidencePart::Part { start, length } => Some((start as usize, length)),
-        _ => None,
-    });
-    parts.filter(|(_, length)| *length > 0).map(|(start, _)| file[start - 13]).collect()
+/// Item 10 and the evidence of every record of a file whose lengths are right.
+fn evidence_in(file: &[u8]) -> Vec<(u8, &[u8])> {
+    let of = |record: &[u8]| std::str::from_utf8(&record[112..119]).ok()?.parse::<usize>().ok();
+    let records = gen::evidence_records(file).into_iter().map(|place| &file[place]);
+    records.map(|record| (record[106], &record[119..119 + of(record).expect("a length")])).collect()
 }
 
 /// Compiled and linked as a reader of the manual would, with every warning an error.
@@ -604,8 +628,8 @@ fn the_example_in_c_says_the_same() {
         for words in ways {
             let run = Command::new(&example).args(&words).output().expect("the example runs");
             assert_eq!(String::from_utf8_lossy(&run.stdout), printed(&sample), "{words:?}");
-            let accepted = sample.expected.starts_with("accepted");
-            assert_eq!(run.status.code(), Some(i32::from(!accepted)), "{words:?}");
+            let good = sample.expected.starts_with("accepted") || sample.expected == "yes";
+            assert_eq!(run.status.code(), Some(i32::from(!good)), "{words:?}");
         }
     }
 }
@@ -646,6 +670,7 @@ fn words(sample: &Sample) -> Option<Vec<OsString>> {
             Some(words)
         }
         Files::Day(_) => Some(of("DAY", "file").to_vec()),
+        Files::Signed(_) => Some(of("SIGNED", "file").to_vec()),
         Files::Consent(..) if sample.number == ORDINARY => {
             Some([of("EB13", "enrolments"), of("EI13", "evidence")].concat())
         }

@@ -1,7 +1,9 @@
 //! How much stack the library needs: every function of the C face, called on a painted stack with the largest inputs,
 //! good ones and ones whose fault is found last, touches no more than include/cms.h says.
 
-use super::{stack_arrival, stack_board, stack_changes, stack_day, stack_evidence, stack_two_results};
+use super::{
+    stack_arrival, stack_board, stack_changes, stack_day, stack_evidence, stack_signed, stack_two_results,
+};
 use crate::common::put;
 use outside::bridge::{ask, Call};
 use outside::gen::{self, Draft, Rng};
@@ -226,6 +228,7 @@ fn all_cases() -> Vec<Case> {
     cases.extend(stack_changes::all_cases(&mut rng));
     cases.extend(stack_evidence::all_cases(&mut rng));
     cases.extend(stack_day::all_cases(&mut rng));
+    cases.extend(stack_signed::all_cases());
     cases
 }
 

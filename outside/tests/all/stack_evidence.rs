@@ -3,10 +3,13 @@
 use super::stack::Case;
 use crate::common::put;
 use outside::bridge::Call;
-use outside::evidence::layout::{Profile, BLOCK, GIVEN_LENGTH, MOST_BLOCKS};
-use outside::gen::{self, Draft, EvidenceDraft, Rng};
+use outside::evidence::layout::{Profile, BLOCK, FRONT_LENGTH, GIVEN_LENGTH, MOST_BLOCKS};
+use outside::gen::{self, frames, Draft, EvidenceDraft, Rng};
 use outside::layout::{Kind, MOST_RECORDS};
 use outside::proved::EvidenceParts;
+
+/// Found last of all.
+const NO_FRAME: &str = "the last frame is none";
 
 /// What an input is called, the number that it must be told, and its bytes.
 type Input = (&'static str, u64, Vec<u8>);
@@ -19,6 +22,29 @@ fn largest(rng: &mut Rng, profile: Profile) -> EvidenceDraft {
     }
 }
 
+/// The largest file, of signed evidence: frames that are full of values down to the deepest level.
+fn largest_signed(rng: &mut Rng) -> EvidenceDraft {
+    let mut draft = largest(rng, Profile::Ordinary);
+    for given in &mut draft.records {
+        // A chain of sequences from level 4 to 16 has 26 bytes, and what stands around all chains 23.
+        let room = gen::evidence_blocks(given.evidence.len()) * BLOCK - FRONT_LENGTH - 23;
+        given.put(10, b"2");
+        given.put(11, b"der  ");
+        given.put_evidence(frames::deep(23 + room / 26 * 26).expect("a frame"));
+    }
+    draft
+}
+
+/// The last value of the last frame has a tag that goes on; of other evidence nobody asks for a frame.
+fn without_last_frame(draft: &EvidenceDraft) -> Option<EvidenceDraft> {
+    let mut without = draft.clone();
+    let last =
+        without.records.last_mut().filter(|given| given.item(10) == b"2" && !given.evidence.is_empty())?;
+    let tag = last.evidence.len() - 2;
+    last.evidence[tag] = 0x1f;
+    Some(without)
+}
+
 /// Files that are refused, most of them when all has been read; and the largest good one.
 fn files(draft: &EvidenceDraft) -> Vec<Input> {
     let good = draft.file();
@@ -28,7 +54,7 @@ fn files(draft: &EvidenceDraft) -> Vec<Input> {
         change(&mut file);
         file
     };
-    vec![
+    let mut files = vec![
         ("the last byte is broken", 4, with(&|file| *file.last_mut().expect("a file") = 0x1f)),
         ("a trailer of another institution", 5, with(&|file| put(file, last + 15, b"9999999999"))),
         ("a count is wrong", 6, with(&|file| file[last + 51] ^= 1)),
@@ -36,7 +62,9 @@ fn files(draft: &EvidenceDraft) -> Vec<Input> {
         ("a byte is missing", 2, with(&|file| file.truncate(file.len() - 1))),
         ("too many blocks", 3, vec![b' '; (MOST_BLOCKS + 3) * BLOCK]),
         ("good", 0, good.clone()),
-    ]
+    ];
+    files.extend(without_last_frame(draft).map(|without| (NO_FRAME, 22, without.file())));
+    files
 }
 
 /// The last record has the key of the first.
@@ -47,10 +75,10 @@ fn repeated(draft: &EvidenceDraft) -> EvidenceDraft {
     repeated
 }
 
-fn of_one_file(number: u32, draft: &EvidenceDraft) -> Vec<Case> {
+fn of_one_file(number: u32, of: &str, draft: &EvidenceDraft) -> Vec<Case> {
     let mut cases = Vec::new();
     for (what, returned, file) in files(draft) {
-        let input = format!("profile {number}: {what}");
+        let input = format!("{of}: {what}");
         let call = Call::evidence_read(number, &file);
         cases.push(Case { function: "cms_evidence_read", input: input.clone(), returned, call });
         for record in [1, MOST_RECORDS as u64, MOST_RECORDS as u64 + 1] {
@@ -62,7 +90,7 @@ fn of_one_file(number: u32, draft: &EvidenceDraft) -> Vec<Case> {
     cases
 }
 
-fn of_writing(number: u32, draft: &EvidenceDraft) -> Vec<Case> {
+fn of_writing(number: u32, of: &str, draft: &EvidenceDraft) -> Vec<Case> {
     let (good, room) = (draft.given(), vec![b'?'; draft.file().len()]);
     let last = draft.records.last().expect("records");
     let last_start = good.len() - last.evidence.len() - GIVEN_LENGTH;
@@ -71,7 +99,7 @@ fn of_writing(number: u32, draft: &EvidenceDraft) -> Vec<Case> {
         change(&mut changed);
         changed
     };
-    let inputs: Vec<Input> = vec![
+    let mut inputs: Vec<Input> = vec![
         ("good", 0, good.clone()),
         ("too little room", 8, good.clone()),
         ("the last item is broken", 4, with(&|records| records[last_start + GIVEN_LENGTH - 1] = b'x')),
@@ -79,11 +107,12 @@ fn of_writing(number: u32, draft: &EvidenceDraft) -> Vec<Case> {
         ("the last record is cut", 2, with(&|records| records.truncate(records.len() - 1))),
         ("a record too many", 3, with(&|records| records.extend(&last.items))),
     ];
+    inputs.extend(without_last_frame(draft).map(|without| (NO_FRAME, 22, without.given())));
     let case = |(what, returned, records): Input| {
         let EvidenceDraft { date, code, .. } = draft;
         let parts = EvidenceParts { date, code, records: &records };
         let call = Call::evidence_write(number, &parts, &room[usize::from(returned == 8)..]);
-        Case { function: "cms_evidence_write", input: format!("profile {number}: {what}"), returned, call }
+        Case { function: "cms_evidence_write", input: format!("{of}: {what}"), returned, call }
     };
     inputs.into_iter().map(case).collect()
 }
@@ -115,7 +144,8 @@ fn evidence_for(
     evidence
 }
 
-fn of_comparing(rng: &mut Rng, number: u32, profile: Profile, draft: &EvidenceDraft) -> Vec<Case> {
+fn of_comparing(rng: &mut Rng, number: u32, of: &str, draft: &EvidenceDraft) -> Vec<Case> {
+    let profile = Profile::of(number);
     let enrolments = enrolments(rng);
     let evidence = evidence_for(rng, &enrolments, profile, draft);
     let asked = enrolments.file();
@@ -148,23 +178,21 @@ fn of_comparing(rng: &mut Rng, number: u32, profile: Profile, draft: &EvidenceDr
     }
     let case = |(what, returned, enrolments, evidence): (&str, u64, Vec<u8>, Vec<u8>)| {
         let call = Call::evidence_compare(number, &enrolments, &evidence);
-        Case {
-            function: "cms_evidence_compare",
-            input: format!("profile {number}: {what}"),
-            returned,
-            call,
-        }
+        Case { function: "cms_evidence_compare", input: format!("{of}: {what}"), returned, call }
     };
     inputs.into_iter().map(case).collect()
 }
 
 pub(super) fn all_cases(rng: &mut Rng) -> Vec<Case> {
     let mut cases = Vec::new();
-    for (number, profile) in [(0, Profile::Ordinary), (1, Profile::PartlyExempt)] {
-        let draft = largest(rng, profile);
-        cases.extend(of_one_file(number, &draft));
-        cases.extend(of_writing(number, &draft));
-        cases.extend(of_comparing(rng, number, profile, &draft));
+    for (number, of, draft) in [
+        (0, "ordinary", largest(rng, Profile::Ordinary)),
+        (0, "ordinary, signed", largest_signed(rng)),
+        (1, "partly exempt", largest(rng, Profile::PartlyExempt)),
+    ] {
+        cases.extend(of_one_file(number, of, &draft));
+        cases.extend(of_writing(number, of, &draft));
+        cases.extend(of_comparing(rng, number, of, &draft));
     }
     cases
 }

@@ -11,6 +11,8 @@ mod measures;
 #[cfg(target_arch = "x86_64")]
 mod passbook;
 #[cfg(target_arch = "x86_64")]
+mod signed;
+#[cfg(target_arch = "x86_64")]
 mod two_results;
 
 fn main() {
@@ -22,6 +24,7 @@ fn main() {
         changes::print();
         two_results::print();
         passbook::print();
+        signed::print();
     }
     #[cfg(not(target_arch = "x86_64"))]
     println!("the library is for x86-64, and its time is measured there only");

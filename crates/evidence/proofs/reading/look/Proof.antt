@@ -1,7 +1,8 @@
 -- Stage by stage.
 use Rattle.answers.proofs.Refusals.{number-of}
+use Rattle.evidence.specs.Judged.{byteOf}
 use Rattle.evidence.specs.Reading.{placesOf}
-use Rattle.evidence.proofs.Looked.{sizes-good, at-size, at-header, good-records, at-records, at-rest, all-good, records-few, places-none, place-at, first-inside}
+use Rattle.evidence.proofs.Looked.{sizes-good, at-size, at-header, good-records, at-records, at-rest, all-good, records-few, unit-inside, places-none, place-at, places-long, first-inside}
 use borrow.Author.Needs.{needs}
 use mathlib.Core.Path.{sym, _∙_}
 use native.Mathlib.Omega.{arith}
@@ -67,7 +68,13 @@ rest-tells-requires c κs =
           e,
           (
             λ i l. rw (g, ← k .ensures .1 .0, ← k .ensures .1 .1) at (place-at (a .exempt) (a .file .now) (a .places .now) i (rw (g, ← k .ensures .1 .0) l)),
-            λ i l. first-inside (a .file .now) i (rw (← e) l),
+            (
+              λ i l. first-inside (a .file .now) i (rw (← e) l),
+              (
+                rw (k .ensures .1 .1) (places-long (byteOf (a .file .now)) (k .result .count) _),
+                λ i l. unit-inside (a .exempt) (a .file .now) r (sizes-good (a .file .now) z .fewest) i (rw (← e) l),
+              ),
+            ),
           ),
         ),
       ),

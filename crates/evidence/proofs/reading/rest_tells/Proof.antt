@@ -1,4 +1,9 @@
--- The trailer, then the counts, then the keys.
+-- The trailer, then the counts, then the keys, then the frames.
+use Prim.Native.Nat.{ℕ, _+_}
+use lib.ListN.{getD}
+use Rattle.evidence_units.proofs.Framed.{frames-same}
+use Rattle.evidence.specs.Judged.{unitByte}
+use Rattle.evidence.specs.Reading.{signedTold}
 use Rattle.answers.proofs.Refusals.{then-first, then-second}
 use mathlib.Core.Path.{sym, _∙_}
 use borrow.Author.Needs.{needs}
@@ -24,9 +29,27 @@ keys-tell-requires c κs = search needs
 
 returns-3 : tie.Need-returns-3
 returns-3 c =
-    let n = c .before in
+    let n = c .before .before .before in
     let t = n .before .before .before in
-    rw (← t .before .before .trailer-tells .ensures, ← n .before .before .counts-tell .ensures, ← c .keys-tell .ensures) (sym (then-second _ _ (t .if1 .left) ∙ then-second _ _ (n .if2 .left)))
+    rw (← t .before .before .trailer-tells .ensures, ← n .before .before .counts-tell .ensures, ← c .before .before .keys-tell .ensures) (sym (then-second _ _ (t .if1 .left) ∙ (then-second _ _ (n .if2 .left) ∙ then-first _ _ (c .if3 .taken))))
+
+frames-tell-requires : tie.Need-frames-tell-requires
+unfolding unitByte
+frames-tell-requires c κs =
+    let p = c .before .before .before .before .before .before .before .before .before .before .before .pre in
+    (p .1 .1 .1 .1 .1 .0, λ i l. rw (p .1 .1 .1 .0 i l) (p .1 .1 .1 .1 .1 .1 i l))
+
+returns-4 : tie.Need-returns-4
+unfolding signedTold unitByte
+returns-4 c =
+    let k = c .before in
+    let n = k .before .before .before in
+    let t = n .before .before .before in
+    let a = t .before .before .before .before .before .args in
+    let p = t .before .before .before .before .before .pre in
+    let frames = c .frames-tell .ensures ∙ frames-same (a .file .now) (λ (i : ℕ). getD (a .places .now) i 0 + 45) (a .n) (unitByte (a .file .now)) (λ i l. rw (p .1 .1 .1 .0 i l)) in
+    rw (← t .before .before .trailer-tells .ensures, ← n .before .before .counts-tell .ensures, ← k .before .before .keys-tell .ensures, ← p .1 .1 .0)
+    (frames ∙ sym (then-second _ _ (t .if1 .left) ∙ (then-second _ _ (n .if2 .left) ∙ then-second _ _ (k .if3 .left))))
 
 pub rest-tells-spec : {M : Type 1} → statement M
 rest-tells-spec =
@@ -37,4 +60,6 @@ rest-tells-spec =
     counts-tell-requires
     returns-2
     keys-tell-requires
-    returns-3)
+    returns-3
+    frames-tell-requires
+    returns-4)

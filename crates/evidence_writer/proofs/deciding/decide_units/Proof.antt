@@ -1,10 +1,10 @@
--- The units, then their keys by the places of the units.
+-- The units, then their keys and frames by the places of the units.
 use lib.ListN.{replicate}
 use mathlib.Core.Path.{_≡_, sym, _∙_}
-use native.Mathlib.Omega.{arith}
 use Rattle.answers.proofs.Refusals.{number-of, then-first, then-second}
 use Rattle.kinds.specs.Kinds.{limit}
-use Rattle.evidence_builder.specs.Units.{unitsIn}
+use Rattle.evidence.proofs.Looked.{places-long}
+use Rattle.evidence_builder.specs.Units.{placeOf, unitsIn}
 use Rattle.evidence_writer.specs.Writing.{recordsTold}
 use Rattle.evidence_writer.proofs.Decides.{records-good}
 use Rattle.evidence_writer.proofs.Told.{all-good}
@@ -33,21 +33,24 @@ returns c =
     let k = c .before .before .before .units-tell in
     (rw (← k .ensures .0) (sym (then-first _ _ (c .if1 .taken))), (λ z. absurd (c .if1 .taken z), k .ensures .1 .1 .0))
 
-slice-aggregate-keys-tell : tie.Need-slice-aggregate-keys-tell
-slice-aggregate-keys-tell c = search needs
+slice-aggregate-rest-tells : tie.Need-slice-aggregate-rest-tells
+slice-aggregate-rest-tells c = search needs
 
-keys-tell-requires : tie.Need-keys-tell-requires
-keys-tell-requires c κs =
+rest-tells-requires : tie.Need-rest-tells-requires
+rest-tells-requires c κs =
     let a = c .before .before .before .before .before .before .before .before .before .args in
     let k = c .before .before .before .before .units-tell in
     let e = counted (c .before) in
     let g = records-good (a .exempt) (a .header .now) (a .code .now) (a .x .now) (good (c .before)) in (
       rw e (g .0),
       (
-        e,
+        rw (k .ensures .1 .1 .1) (places-long (placeOf (a .x .now)) (k .result .count) _),
         (
-          λ i l. place-at (a .x .now) (replicate limit 0) _ (k .result .count) i (k .ensures .1 .1 .1) l,
-          λ i l. omega (arith, g .1 .0 i (rw (← e) l) .inside),
+          e,
+          (
+            λ i l. place-at (a .x .now) (replicate limit 0) _ (k .result .count) i (k .ensures .1 .1 .1) l,
+            λ i l. g .1 .0 i (rw (← e) l) .inside,
+          ),
         ),
       ),
     )
@@ -55,7 +58,7 @@ keys-tell-requires c κs =
 returns-2 : tie.Need-returns-2
 returns-2 c =
     let k = c .before .before .before .before .before .units-tell in
-    (rw (← k .ensures .0, ← c .keys-tell .ensures) (sym (then-second _ _ (c .before .before .if1 .left))), (λ _. counted (c .before .before), k .ensures .1 .1 .0))
+    (rw (← k .ensures .0, ← c .rest-tells .ensures) (sym (then-second _ _ (c .before .before .if1 .left))), (λ _. counted (c .before .before), k .ensures .1 .1 .0))
 
 pub decide-units-spec : {M : Type 1} → statement M
 decide-units-spec =
@@ -64,6 +67,6 @@ decide-units-spec =
     slice-aggregate-units-tell
     units-tell-requires
     returns
-    slice-aggregate-keys-tell
-    keys-tell-requires
+    slice-aggregate-rest-tells
+    rest-tells-requires
     returns-2)

@@ -4,7 +4,7 @@ use mathlib.Core.Path.{_≡_, refl}
 use native.Mathlib.Omega.{arith}
 use Rattle.laws.specs.Part.{part}
 use Rattle.laws.specs.Stored.{stored}
-use Rattle.evidence_builder.specs.Units.{items}
+use Rattle.evidence_units.specs.Units.{items}
 use Rattle.evidence_rows.specs.Tables.{dataRows}
 use Rattle.evidence.proofs.Rows.{data-fits, table-judges, table-tells}
 use Rattle.evidence_writer.specs.Writing.{itemsTold}

@@ -1,5 +1,5 @@
 -- The kind and the length as the unit has them.
-use Rattle.evidence_builder.specs.Units.{sortAt}
+use Rattle.evidence_units.specs.Units.{sortAt}
 use Rattle.evidence_writer.specs.Writing.{lengthTold}
 use borrow.Author.Needs.{needs}
 use Rattle.evidence_writer.proofs.units_tell.length_tells.Statement.{statement}

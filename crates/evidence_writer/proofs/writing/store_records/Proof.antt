@@ -9,7 +9,8 @@ use Rattle.laws.specs.Stored.{stored}
 use Rattle.laws.proofs.Joins.{joined-start, joined-more}
 use Rattle.evidence.specs.Blocks.{block, blocksFor}
 use Rattle.evidence.proofs.Walks.{blocks-tight}
-use Rattle.evidence_builder.specs.Units.{saidAt, placeOf, saidBy, unitOf, blocksTo}
+use Rattle.evidence_units.specs.Units.{saidAt}
+use Rattle.evidence_builder.specs.Units.{placeOf, saidBy, unitOf, blocksTo}
 use Rattle.evidence_builder.specs.Files.{recordOf}
 use Rattle.evidence_builder.proofs.Walked.{place-first, place-more}
 use Rattle.laws.proofs.Stores.{stored-then, stored-none}

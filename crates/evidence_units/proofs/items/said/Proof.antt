@@ -1,11 +1,11 @@
 -- Item 12 is the last of the unit's items, and seven bytes say a number below 10,000,000.
 use Rattle.numbers.proofs.Values.{value-size}
 use Rattle.numbers.specs.Numbers.{valueOf}
-use Rattle.evidence_builder.specs.Units.{saidAt}
+use Rattle.evidence_units.specs.Units.{saidAt}
 use mathlib.Core.Path.{_∙_, ap}
 use borrow.Author.Needs.{needs}
-use Rattle.evidence_builder.proofs.units.said.Statement.{statement}
-use Rattle.evidence_builder.proofs.units.said.Tie as tie
+use Rattle.evidence_units.proofs.items.said.Statement.{statement}
+use Rattle.evidence_units.proofs.items.said.Tie as tie
 
 add-part : tie.Need-add-part
 add-part c = search needs

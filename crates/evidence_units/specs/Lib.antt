@@ -1,0 +1,3 @@
+-- A unit of consent evidence.
+pub mod Units
+pub mod Frames

@@ -1,0 +1,4 @@
+-- The frame of signed evidence.
+pub mod Shape
+pub mod Checking
+pub mod Shortest
