@@ -13,9 +13,10 @@
  * The profile of consent evidence (EI13) is 0 for an ordinary institution. Every other number is one that is partly
  * exempt: its records have a kind of evidence, but a blank extension and no bytes.
  *
- * A day file holds files of the six kinds of the pairs, which are its bodies: the byte "1", two digits for how many they
- * are (00 to 16), for each its name (8 bytes) and its length (five digits), and then the bodies in that order, with nothing between
- * or behind them. No two names are the same, and each is item 4 of its body's header.
+ * A day file holds files of the six kinds of the pairs, which are its bodies: the byte "1" or "2", two digits for how many
+ * they are (00 to 16), for each its name (8 bytes) and its length (five digits behind "1", six behind "2"), and then the bodies
+ * in that order, with nothing between or behind them. The first byte is "2" where a body has more than 99,999 bytes, and "1"
+ * where none has. No two names are the same, and each is item 4 of its body's header.
  *
  * Every function takes any number, any bytes and any length. All but cms_post, cms_part and cms_signed return the refusal's
  * number, 0 when accepted, and store an answer. But for day files it begins with five numbers:
@@ -32,15 +33,16 @@
  *   answer[2] to [6]  of number 33 the five that the body is told by itself; else 0, 0, 0, 0 and "0000"
  * A refusal leaves all other lent memory as it was, but for the state of a file that arrives: cms_end marks it as ended,
  * whatever it answers.
- * No function needs more than 64 KB of stack.
+ * No function needs more than 96 KB of stack, so a thread with a stack of 128 KB can call every one.
  *
  * Numbers: 1 kind or pair unknown, 2 not whole records (evidence: blocks) or fewer than two, or in writing a part of
- * another length or cut short, 3 more than 430 data records (evidence: or more than 4,096 data blocks), 4 an item breaks
+ * another length or cut short, 3 more than 2,000 data records (evidence: or more than 4,096 data blocks), 4 an item breaks
  * its rule, 5 an item disagrees with the kind or header, 6 a count or sum is wrong, 7 the key of an earlier record, 8 lent
  * room is too short, 9 a part or an end after the end, 12 the headers of two files differ, 13 a result without a request or
  * with a copied item that differs, 14 an impossible amount, 15 no such request, 20 an enrolment without evidence, 21
- * evidence without an enrolment, 22 evidence of kind "2" without the frame of signed data (cms_signed), 30 the form byte,
- * the count, a length or the size of a day file's contents is wrong, 31 its bodies are not as long as the contents say, 32
+ * evidence without an enrolment, 22 evidence of kind "2" without the frame of signed data (cms_signed), 30 the form byte
+ * (also a "2" where no body has more than 99,999 bytes), the count, a length or the size of a day file's contents is wrong, 31
+ * its bodies are not as long as the contents say, 32
  * the name of an earlier body, 33 a body is refused: as cms_read refuses it, or with 1 where its name says no kind that goes
  * in, or last with 5 at record 0, item 4, where its header has another name, 40 the date of a pair is not later than the
  * last one posted, 41 a payer is not on the board, 42 more was taken of a payer than it owes, 43 the payer of an earlier
@@ -73,8 +75,14 @@ extern "C" {
  * everywhere else. And cms_write_eb12 came. No function changed its parameters. 10: cms_two_results came, and no other
  * function changed. 11: cms_signed came. And every function of consent evidence refuses a file, with 22 at item 13 of the
  * first such record, in which evidence of kind "2" is not empty and has not the frame of signed data: after 7, and before 8
- * and 12. Before, any bytes did, so files written before may be refused now. No function changed its parameters. */
-#define CMS_FACE 11
+ * and 12. Before, any bytes did, so files written before may be refused now. No function changed its parameters. 12: a file
+ * may have 2,000 data records, and an EI13 too; before, more than 430 were 3, in every function that reads or writes one. Only
+ * cms_post still refuses a file of more than 64,800 bytes. CMS_LONGEST, the room for a file that arrives, is 300,300; before, it
+ * was 64,800, and a room of that size now gets 8 for a longer file. Day files have the form "2", with six digits for each
+ * length, where a body has more than 99,999 bytes; cms_day_read and cms_day_body take it, and cms_day_write writes it; before,
+ * "2" and lengths of more than 99,999 were 30. Files that were accepted before are accepted as before, and what is written of
+ * the same input is the same. Functions need up to 96 KB of stack; before, up to 64 KB. No function changed its parameters. */
+#define CMS_FACE 12
 
 #define CMS_EB11 UINT32_C(0x45423131)
 #define CMS_EB13 UINT32_C(0x45423133)
@@ -85,7 +93,7 @@ extern "C" {
 #define CMS_EC22 UINT32_C(0x45433232)
 
 /* The longest file of any of these kinds, in bytes. A room of that size never gets 8 from cms_end. */
-#define CMS_LONGEST 64800
+#define CMS_LONGEST 300300
 
 /* What cms_part returns for a part that it took. It says nothing of the file. */
 #define CMS_MORE 10

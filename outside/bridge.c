@@ -8,12 +8,14 @@
  *   an answer:  0, or what was changed that may not be (see `changed`); what the call returned; and all memory that was
  *               lent to be written, whole, in the order of the parameters, the answer last
  *   PAINTED before a call makes it on a stack of its own; how many bytes of that were touched comes after the answer
+ *   THREADED before a call makes it on a thread whose stack has 128 KB
  * Before all, one number says that the bridge is there.
  *
  * Each slice is lent from a place of its own that ends where no memory may be touched, so a step past its end ends this
  * program by a signal. Bytes in front of it are watched, and what is only read must be afterwards what it was. */
 #define _DEFAULT_SOURCE
 #include "cms.h"
+#include <pthread.h>
 #include <stdlib.h>
 #include <string.h>
 #include <sys/mman.h>
@@ -21,7 +23,7 @@
 
 enum { READ, WRITE, PAIR, OUTCOME, WALK, POST, APART, TOUCH, DIG, PAINTED,
        EVIDENCE_READ, EVIDENCE_PART, EVIDENCE_WRITE, EVIDENCE_COMPARE,
-       DAY_READ, DAY_BODY, DAY_WRITE, PART, END, ARRIVE, BOARD_POST, WRITE_EB12, TWO_RESULTS, SIGNED };
+       DAY_READ, DAY_BODY, DAY_WRITE, PART, END, ARRIVE, BOARD_POST, WRITE_EB12, TWO_RESULTS, SIGNED, THREADED };
 
 #define THERE UINT64_C(0x636d735f66616365)
 
@@ -30,6 +32,7 @@ enum { READ, WRITE, PAIR, OUTCOME, WALK, POST, APART, TOUCH, DIG, PAINTED,
 /* Multiples of that. A length of a frame has four digits from 16,777,216 bytes on; no file is so long. */
 #define LONGEST ((size_t)17 << 20)
 #define STACK ((size_t)1 << 20)
+#define THREAD ((size_t)1 << 17)
 #define WATCHED ((size_t)64)
 #define MOST 8
 
@@ -306,16 +309,22 @@ static function prepared(uint64_t which) {
     }
 }
 
-/* ---- a painted stack, which ends where no memory may be touched */
+/* ---- stacks, each of which ends where no memory may be touched: a painted one, and that of a thread */
 
 static uint64_t *painted;
+static uint8_t *of_thread;
 #define PAINT UINT64_C(0x7061696e7465643a)
 #define WORDS (STACK / sizeof(uint64_t))
 
-static void make_stack(void) {
-    uint8_t *all = mmap(NULL, GUARD + STACK, PROT_READ | PROT_WRITE, MAP_PRIVATE | MAP_ANONYMOUS, -1, 0);
+static uint8_t *a_stack(size_t length) {
+    uint8_t *all = mmap(NULL, GUARD + length, PROT_READ | PROT_WRITE, MAP_PRIVATE | MAP_ANONYMOUS, -1, 0);
     if (all == MAP_FAILED || mprotect(all, GUARD, PROT_NONE)) fail("the bridge has no memory for a stack\n");
-    painted = (uint64_t *)(void *)(all + GUARD);
+    return all + GUARD;
+}
+
+static void make_stacks(void) {
+    painted = (uint64_t *)(void *)a_stack(STACK);
+    of_thread = a_stack(THREAD);
 }
 
 /* Calls with another stack, whose top is given, and comes back. */
@@ -342,12 +351,32 @@ static uint64_t called_on_paint(function call, uint64_t *touched) {
     return returned;
 }
 
+static function for_thread;
+static uint64_t returned_by_thread;
+
+static void *run(void *none) {
+    returned_by_thread = for_thread();
+    return none;
+}
+
+/* What the call returns on a thread whose stack is all that it has: what belongs to the thread itself lies there, too. */
+static uint64_t called_on_thread(function call) {
+    pthread_t thread;
+    pthread_attr_t attributes;
+    for_thread = call;
+    if (pthread_attr_init(&attributes) || pthread_attr_setstack(&attributes, of_thread, THREAD) ||
+        pthread_create(&thread, &attributes, run, NULL) || pthread_join(thread, NULL))
+        fail("the bridge cannot run a thread\n");
+    pthread_attr_destroy(&attributes);
+    return returned_by_thread;
+}
+
 static void answer_call(void) {
     uint64_t which = number(), touched = 0;
-    int paint = which == PAINTED;
+    int paint = which == PAINTED, thread = which == THREADED;
     lent_count = 0;
-    function call = prepared(paint ? number() : which);
-    uint64_t returned = paint ? called_on_paint(call, &touched) : call();
+    function call = prepared(paint || thread ? number() : which);
+    uint64_t returned = paint ? called_on_paint(call, &touched) : thread ? called_on_thread(call) : call();
     answer_number(changed());
     answer_number(returned);
     for (size_t i = 0; i < lent_count; i++) {
@@ -361,7 +390,7 @@ int main(void) {
     uint8_t *calls = NULL;
     uint64_t length = THERE;
     make_places();
-    make_stack();
+    make_stacks();
     put(&length, sizeof length);
     while (get(&length, sizeof length)) {
         calls = room(calls, length + 1);

@@ -17,14 +17,14 @@
 #include <string.h>
 
 #define ORDINARY 0
-/* The most that the words of a call may name. A board may have any number of members, an EB11 430 records. */
+/* The most that the words of a call may name. A board may have any number of members, an EB11 2,000 records. */
 #define MEMBERS 100
-#define ANSWERS 430
+#define ANSWERS 2000
 
 struct file {
     size_t length;
-    /* The longest file, which is one of evidence, and a byte more to see that one is longer. */
-    uint8_t bytes[4098 * 1024 + 1];
+    /* The longest file, which is a day file of 16 bodies, and a byte more to see that one is longer. */
+    uint8_t bytes[3 + 16 * (14 + CMS_LONGEST) + 1];
 };
 
 static struct file one, other, third;
@@ -192,8 +192,8 @@ int main(int count, char **words) {
         return compare_results(words[2]);
     fputs("usage: example KIND FILE, example PARTS KIND FILE, example DAY FILE, example EB13 FILE EI13 FILE,\n"
           "example SIGNED FILE, example BOARD KIND FILE FILE and a payer and won for each member, example ANSWER FILE and yes or\n"
-          "a code for each record, or example TWO KIND FILE FILE FILE; files of no more than 4,098 KB that can be read, no more\n"
-          "than 100 members and 430 answers\n",
+          "a code for each record, or example TWO KIND FILE FILE FILE; files of no more than 4,805,027 bytes that can be read, no\n"
+          "more than 100 members and 2,000 answers\n",
           stderr);
     return 2;
 }

@@ -5,7 +5,7 @@
 //! Twice: an [`Arrival`] keeps every byte and goes by them; [`part_at`] and
 //! [`end_at`] go by the two numbers of a state alone, whatever they are.
 
-use crate::layout::Kind;
+use crate::layout::{Family, Kind, MOST_RECORDS};
 use crate::model::Answer;
 use crate::read::{check_length, read};
 
@@ -16,10 +16,12 @@ pub const AFTER_THE_END: u64 = 9;
 
 /// The second number of a state that was ended.
 pub const ENDED: u64 = u64::MAX;
-/// From this length on, a file is longer than any kind allows, and only what is left over of whole records matters.
-pub const FOLDED_FROM: u64 = 65_400;
 /// A common multiple of both record lengths.
 pub const FOLD: u64 = 600;
+/// From this length on, the first multiple past the longest file, only what is left over of whole records matters.
+pub const FOLDED_FROM: u64 = (LONGEST / FOLD + 1) * FOLD;
+/// The longest file of any kind.
+const LONGEST: u64 = ((MOST_RECORDS + 2) * Family::Debit.record_length()) as u64;
 
 // ------------------------------------------------------- by the joined bytes
 

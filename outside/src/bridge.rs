@@ -63,6 +63,8 @@ impl fmt::Display for Breach {
 
 /// Stands before a call that is to be made on a painted stack.
 const PAINTED: u64 = 9;
+/// Before one that is to be made on a thread with a small stack.
+const THREADED: u64 = 24;
 
 impl Call {
     pub fn of(function: &'static Function) -> Call {
@@ -107,6 +109,12 @@ impl Call {
     pub fn painted(mut self) -> Call {
         self.sent.splice(..0, PAINTED.to_le_bytes());
         self.answer(1)
+    }
+
+    /// The same call on a thread whose stack has 128 KB.
+    pub fn on_a_thread(mut self) -> Call {
+        self.sent.splice(..0, THREADED.to_le_bytes());
+        self
     }
 
     /// How many bytes the bridge answers with.
@@ -436,6 +444,30 @@ mod tests {
         assert!((8..100).contains(&touched), "{touched}");
         assert_eq!(ask(&touch(27, 3, b'!').painted()), Err(Breach::Changed("the slice")));
         assert_eq!(ask(&touch(27, -1, b'!').painted()), Err(Breach::Before("the slice")));
+    }
+
+    /// On a thread 96 KB may be used and more, but not all of its 128 KB, where the thread's own lies, too.
+    #[test]
+    fn a_threads_stack_has_128_kb() {
+        let dig = |bytes: u64| ask(&Call::of(&DIG).number(bytes).on_a_thread());
+        for bytes in [1, 4_096, 98_304, 120_000] {
+            assert_eq!(dig(bytes), Ok(Said::new(1)), "{bytes} bytes");
+        }
+        for bytes in [131_072, 150_000, 180_000] {
+            assert!(
+                matches!(dig(bytes), Err(Breach::Died(status)) if status.signal() == Some(11)),
+                "{bytes} bytes"
+            );
+        }
+    }
+
+    /// On a thread memory is watched as on any other stack.
+    #[test]
+    fn a_call_on_a_thread_says_what_it_says_without() {
+        assert_eq!(ask(&touch(27, 3, 0).on_a_thread()), Ok(Said::new(b'd'.into())));
+        assert_eq!(ask(&touch(27, 3, b'!').on_a_thread()), Err(Breach::Changed("the slice")));
+        assert_eq!(ask(&touch(27, -1, b'!').on_a_thread()), Err(Breach::Before("the slice")));
+        assert!(matches!(ask(&touch(27, 27, 0).on_a_thread()), Err(Breach::Died(_))));
     }
 
     /// A queue of 30,000 inputs, one of which is another call, or is said to give something else.

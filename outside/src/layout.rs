@@ -1,7 +1,7 @@
 //! Record layouts: how long the items are, kind by kind.
 
 /// No file has more data records than this.
-pub const MOST_RECORDS: usize = 430;
+pub const MOST_RECORDS: usize = 2_000;
 
 /// A file kind.
 #[derive(Clone, Copy, Debug, PartialEq, Eq, Hash, PartialOrd, Ord)]
@@ -220,7 +220,7 @@ impl PairKind {
 }
 
 impl Family {
-    pub fn record_length(self) -> usize {
+    pub const fn record_length(self) -> usize {
         match self {
             Family::Enrolment => 120,
             Family::Debit => 150,

@@ -56,6 +56,14 @@ extern "C" {
         room_length: usize,
         answer: *mut u64,
     ) -> u64;
+    fn cms_evidence_compare(
+        profile: u32,
+        enrolments: *const u8,
+        enrolments_length: usize,
+        evidence: *const u8,
+        evidence_length: usize,
+        answer: *mut u64,
+    ) -> u64;
     fn cms_day_read(file: *const u8, file_length: usize, answer: *mut u64) -> u64;
     fn cms_day_write(
         names: *const u8,
@@ -204,6 +212,22 @@ pub fn evidence_write(profile: u32, parts: &EvidenceParts, room: &mut [u8]) -> [
             parts.records.len(),
             room.as_mut_ptr(),
             room.len(),
+            answer.as_mut_ptr(),
+        )
+    };
+    answer
+}
+
+pub fn evidence_compare(profile: u32, enrolments: &[u8], evidence: &[u8]) -> [u64; 5] {
+    let mut answer = [0; 5];
+    // Safe: each pointer is good for the length that stands beside it, till the call returns.
+    unsafe {
+        cms_evidence_compare(
+            profile,
+            enrolments.as_ptr(),
+            enrolments.len(),
+            evidence.as_ptr(),
+            evidence.len(),
             answer.as_mut_ptr(),
         )
     };

@@ -4,7 +4,7 @@ use crate::layout::PairKind;
 use crate::model::{Answer, Maker, Outcome, BLANK_CODE};
 use crate::pair::settle;
 
-/// A file longer than this is 3 on its side, before all else.
+/// What the program has room for. A longer file is 3 on its side, before all else, also where the reader would take it.
 pub const LONGEST_FILE: usize = 64_800;
 
 /// The program's output.

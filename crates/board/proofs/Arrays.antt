@@ -68,24 +68,28 @@ module _ {M : Type 1} (𝓤 : URA M) (H : Heap 𝓤) (A : Atoms 𝓤) (W : Given
       rewrite ! 0 (λ (k : ℕ). ‵ (MutSlice (named 0) (ν ∷ []) R .own (under δ xs) (sliceVal (b, 0) k ∷ []))) l refl $
       now ! $ show ! (λ (μ : ℕ). mean 𝓤 H A (some (λ (ε : GName). Lent xs μ ε))) ν $ show ! (λ (ε : GName). mean 𝓤 H A (Lent xs ν ε)) δ $ move ! (0 ∷ 2 ∷ 1 ∷ []) $ frame ! $ frame ! $ done !)))
 
-  pub empties : (xs zs : List (R .Denot)) (ν : ℕ) (δ : GName) → length xs ≡ n → length zs ≡ length xs
-      → ent 𝓤 (⋆ 𝓤 H A (‵ (flft (ν ∷ []) fullShare) ∷ ‵ (finally R δ zs) ∷ ‵ (flent (ν ∷ []) (Held R (length xs) b 0 δ)) ∷ [])) (H .⇛ (sem 𝓤 H A (froom array b 0)))
-  empties xs zs ν δ l e =
+  -- what the call left, its elements side by side
+  back : (xs zs : List (R .Denot)) (ν : ℕ) (δ : GName) → length xs ≡ n → length zs ≡ length xs → ent 𝓤 (⋆ 𝓤 H A (‵ (flft (ν ∷ []) fullShare) ∷ ‵ (finally R δ zs) ∷ ‵ (flent (ν ∷ []) (Held R (length xs) b 0 δ)) ∷ [])) (H .⇛ (sem 𝓤 H A (Parts n zs)))
+  back xs zs ν δ l e =
       qed W (‵ (flft (ν ∷ []) fullShare) ∷ ‵ (finally R δ zs) ∷ ‵ (flent (ν ∷ []) (Held R (length xs) b 0 δ)) ∷ []) ∵ updating ! $ lft-end ! tt $ move ! (0 ∷ 2 ∷ 1 ∷ []) $
       use3 W (later (‵ (Arr (mem R) (length xs) .lies zs b 0))) (slice-back 𝓤 H A W R (ν ∷ []) δ zs (length xs) b 0) $ await ! tt $ fsplit ! $ drop ! $ use1 W (‵ (row R fullShare zs b 0)) (whole-out 𝓤 H A W R zs b 0) $
-      feqI ! ℕ (length zs) n (e ∙ l) $ fjoin ! $ now ! $ by ! (emptied zs)
+      feqI ! ℕ (length zs) n (e ∙ l) $ fjoin ! $ now ! $ done !
+
+  pub empties : (xs zs : List (R .Denot)) (ν : ℕ) (δ : GName) → length xs ≡ n → length zs ≡ length xs → ent 𝓤 (⋆ 𝓤 H A (‵ (flft (ν ∷ []) fullShare) ∷ ‵ (finally R δ zs) ∷ ‵ (flent (ν ∷ []) (Held R (length xs) b 0 δ)) ∷ [])) (H .⇛ (sem 𝓤 H A (froom array b 0)))
+  empties xs zs ν δ l e = qed W (‵ (flft (ν ∷ []) fullShare) ∷ ‵ (finally R δ zs) ∷ ‵ (flent (ν ∷ []) (Held R (length xs) b 0 δ)) ∷ []) ∵ updating ! $ use3 W (later (‵ (Parts n zs))) (back xs zs ν δ l e) $ await ! tt $ now ! $ by ! (emptied zs)
 
   -- the same for a call that only looks
   abbrev pub LentShared : List (R .Denot) → ℕ → GName → Item 𝓤
   LentShared xs ν δ = ‵ (ShrSlice (named 0) (ν ∷ []) R .own (under δ xs) value) ⊛ ‵ (flft (ν ∷ []) fullShare) ⊛ ‵ (flent (ν ∷ []) (Parts (length xs) xs))
 
-  pub lends-shared : (xs : List (R .Denot)) (v : Val) → Room R n → Is (Array R n) xs (v ∷ []) → ent 𝓤 (sem 𝓤 H A (fat fullShare array b 0 v)) (H .⇛ (mean 𝓤 H A (some (λ (ν : ℕ). some (λ (δ : GName). LentShared xs ν δ)))))
-  lends-shared xs v room is =
-      qed W (‵ (fat fullShare array b 0 v) ∷ []) ∵ updating ! $ use1 W (‵ (Parts n xs)) (apart xs v is) $ fsplit ! $ feqL ! (λ l. feqI ! ℕ (length xs) (length xs) refl $ fjoin ! $
-      lft-new ! tt (λ ν. move ! (1 ∷ []) $
-      use1 W (later (some (λ (δ : GName). ‵ (ShrSlice (named 0) (ν ∷ []) R .own (under δ xs) (sliceVal (b, 0) (length xs) ∷ [])) ⊛ ‵ (flent (ν ∷ []) (Parts (length xs) xs))))) (lends-shr-slice 𝓤 H A W R (named 0) (ν ∷ []) fullShare xs b 0 (subst (Room R) (sym l) room)) $ await ! tt $ pick ! (λ δ. split ! $
-      rewrite ! 0 (λ (k : ℕ). ‵ (ShrSlice (named 0) (ν ∷ []) R .own (under δ xs) (sliceVal (b, 0) k ∷ []))) l refl $
-      now ! $ show ! (λ (μ : ℕ). mean 𝓤 H A (some (λ (ε : GName). LentShared xs μ ε))) ν $ show ! (λ (ε : GName). mean 𝓤 H A (LentShared xs ν ε)) δ $ move ! (0 ∷ 2 ∷ 1 ∷ []) $ frame ! $ frame ! $ done !)))
+  -- what a call left, lent at once to one that only looks
+  pub relends : (xs zs : List (R .Denot)) (ν : ℕ) (δ : GName) → Room R n → length xs ≡ n → length zs ≡ length xs → ent 𝓤 (⋆ 𝓤 H A (‵ (flft (ν ∷ []) fullShare) ∷ ‵ (finally R δ zs) ∷ ‵ (flent (ν ∷ []) (Held R (length xs) b 0 δ)) ∷ [])) (H .⇛ (mean 𝓤 H A (some (λ (μ : ℕ). some (λ (ε : GName). LentShared zs μ ε)))))
+  relends xs zs ν δ room l e =
+      qed W (‵ (flft (ν ∷ []) fullShare) ∷ ‵ (finally R δ zs) ∷ ‵ (flent (ν ∷ []) (Held R (length xs) b 0 δ)) ∷ []) ∵ updating ! $ use3 W (later (‵ (Parts n zs))) (back xs zs ν δ l e) $ await ! tt $ fsplit ! $ drop ! $ feqI ! ℕ (length zs) (length zs) refl $ fjoin ! $
+      lft-new ! tt (λ μ. move ! (1 ∷ []) $
+      use1 W (later (some (λ (ε : GName). ‵ (ShrSlice (named 0) (μ ∷ []) R .own (under ε zs) (sliceVal (b, 0) (length zs) ∷ [])) ⊛ ‵ (flent (μ ∷ []) (Parts (length zs) zs))))) (lends-shr-slice 𝓤 H A W R (named 0) (μ ∷ []) fullShare zs b 0 (subst (Room R) (sym (e ∙ l)) room)) $ await ! tt $ pick ! (λ ε. split ! $
+      rewrite ! 0 (λ (k : ℕ). ‵ (ShrSlice (named 0) (μ ∷ []) R .own (under ε zs) (sliceVal (b, 0) k ∷ []))) (e ∙ l) refl $
+      now ! $ show ! (λ (κ : ℕ). mean 𝓤 H A (some (λ (γ : GName). LentShared zs κ γ))) μ $ show ! (λ (γ : GName). mean 𝓤 H A (LentShared zs μ γ)) ε $ move ! (0 ∷ 2 ∷ 1 ∷ []) $ frame ! $ frame ! $ done !))
 
   pub empties-shared : (xs : List (R .Denot)) (ν : ℕ) → length xs ≡ n
       → ent 𝓤 (⋆ 𝓤 H A (‵ (flft (ν ∷ []) fullShare) ∷ ‵ (flent (ν ∷ []) (Parts (length xs) xs)) ∷ [])) (H .⇛ (sem 𝓤 H A (froom array b 0)))

@@ -1,9 +1,11 @@
 -- A pass over the board: what each task asks of the memory that is lent for it, and what it leaves.
 use Prim.Native.Nat.{ℕ, _+_, _*_, _≤_, _<_, _^_}
 use mathlib.Core.Bool.{cond}
+use lib.Dec.{ltb}
 use mathlib.Core.List.{List, []}
 use mathlib.Core.Path.{_≡_}
 use lib.ListN.{length, getD}
+use Rattle.kinds.specs.Kinds.{limit}
 use Rattle.answers.specs.declared.told.Answer.{Answer}
 use Rattle.answers.specs.Answers.{refuses, _then_}
 use Rattle.keys.specs.Stands.{Inside}
@@ -16,12 +18,13 @@ use Rattle.payers.specs.Payers.{membersAfter, dueNumber, duesTell}
 use Rattle.payers.specs.Turns.{held, payerSpacing, duesKey, listed, DuesAsks}
 use Rattle.dues.specs.Steps.{markingTells}
 
--- how long the links and the room are that are lent, as numbers: for every slot and every payer that is held, and for these payers
+-- how long the links and the room are that are lent, as numbers: for every slot and every payer that is held or every request,
+-- whichever may be more, and for these payers
 abbrev pub linksLent : ℕ
-linksLent = 5075
+linksLent = 4051 + cond (ltb 2048 limit) limit 2048
 
 abbrev pub roomLent : ℕ
-roomLent = 20480
+roomLent = 20 * 2048
 
 -- to look for a payer that repeats: no payer is held yet
 pub record SeekBegins (links room : List ℕ) : Type 0 where

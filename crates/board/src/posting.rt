@@ -8,13 +8,14 @@ use answers::told::Answer;
 use dues::ready;
 use dues::steps;
 use dues::steps::Posted;
-use keys::table::SLOTS;
+use keys::chains::SLOTS;
+use kinds::of_files::LIMIT;
 use payers::members::Member;
 use payers::seeking::HELD;
 use payers::turns::Task;
 
-// Links for every slot and for every payer that is held.
-const LINKS: usize = SLOTS + HELD;
+// Links for every slot, and for every payer that is held or every request, whichever may be more.
+const LINKS: usize = SLOTS + if HELD < LIMIT { LIMIT } else { HELD };
 
 // Room for the payers that are held, and later for a mark of each request.
 const ROOM: usize = 20 * HELD;
@@ -52,8 +53,8 @@ pub fn post(
 ) -> Posted
     ensures { λ r. ⌜ (r ≡ boardPosted kind (now (request .entry)) (now (result .entry)) (now (board .entry)) dates) × (now (board .exit) ≡ boardAfter kind (now (request .entry)) (now (result .entry)) (now (board .entry)) dates) ⌝ }
 {
-    let known = ready::ready_of(kind, request, result, dates);
-    let taken = known.taken;
+    let mut taken = [0u64; LIMIT];
+    let known = ready::ready_of(kind, request, result, dates, &mut taken);
     let mut links = [0u16; LINKS];
     let mut room = [0u8; ROOM];
     let answer = passes(

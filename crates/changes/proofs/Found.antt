@@ -154,8 +154,8 @@ module _ (s : List ℕ) (good : Meets EB11 s) where
     found-none : (at < n → halvesIn s i at ≡ false) → n ≡ otherOf s i
     found-none f = sym (other-none i (λ j h. ⊎-elim (λ t. absurd (clash t (rw (here j h t) at (f (rw (here j h t) h))))) (λ g. g) (either (halvesIn s i j))))
 
--- the same of n records with their table
-module _ (s : List ℕ) (n : ℕ) (numbers firsts : List ℕ) (k : Keyed s n numbers firsts) (i at : ℕ) (found : at ≡ placeIn (keyIn [] (spacingOf EB11) s) n (otherKey (recordIn s i))) where
+-- the same of n records whose keys are chained
+module _ (s : List ℕ) (n : ℕ) (links : List ℕ) (k : Keyed s n links) (i at : ℕ) (found : at ≡ placeIn (keyIn [] (spacingOf EB11) s) n (otherKey (recordIn s i))) where
   pub keyed-other : at < n → halvesIn s i at ≡ true → at ≡ otherOf s i
   keyed-other h t = found-other s (k .meets) i at (rw (k .all) at found) (rw (k .all) at h) t
 

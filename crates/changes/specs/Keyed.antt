@@ -1,4 +1,4 @@
--- How the other half of a record is found: by the key that it must have, in the table of the keys of the file.
+-- How the other half of a record is found: by the key that it must have, along the chains of the keys of the file.
 use Prim.Native.Nat.{ℕ}
 use mathlib.Core.Bool.{cond}
 use mathlib.Core.List.{List, [], _∷_}
@@ -7,7 +7,7 @@ use lib.Dec.{eqb}
 use Rattle.kinds.specs.Kinds.{EB11}
 use Rattle.tables.specs.Places.{memberPlace}
 use Rattle.keys.specs.Stands.{keyIn}
-use Rattle.keys.specs.Hashes.{Tabled}
+use Rattle.keys.specs.Chains.{Chained}
 use Rattle.layout.specs.Items.{bytesAt, applicationOf}
 use Rattle.records.specs.Records.{dataOf}
 use Rattle.reader.specs.Keys.{spacingOf}
@@ -20,8 +20,8 @@ otherKind kind = cond (eqb kind 0x33) 0x31 0x33
 unfoldable pub otherKey : List ℕ → List ℕ
 otherKey rec = otherKind (applicationOf rec) ∷ bytesAt memberPlace rec
 
--- an accepted EB11 of n records, and the table of their keys
-pub record Keyed (s : List ℕ) (n : ℕ) (numbers firsts : List ℕ) : Type 0 where
+-- an accepted EB11 of n records, whose keys are chained
+pub record Keyed (s : List ℕ) (n : ℕ) (links : List ℕ) : Type 0 where
   pub meets : Meets EB11 s
   pub all : n ≡ dataOf EB11 s
-  pub tabled : Tabled (keyIn [] (spacingOf EB11) s) n numbers firsts
+  pub chained : Chained (keyIn [] (spacingOf EB11) s) n links

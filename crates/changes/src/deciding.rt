@@ -6,12 +6,16 @@ ghost use Rattle.changes.specs.Deciding.{answeredTold, decided};
 use crate::codes;
 use crate::others;
 use answers::told::Answer;
-use keys::table;
+use keys::chains;
+use keys::chains::SLOTS;
 use kinds::of_files::Kind;
 use kinds::of_files::LIMIT;
 use reader::reading;
 use reader::repeats;
 use records::listed;
+
+// The links of the keys of a file.
+const LINKS: usize = SLOTS + LIMIT;
 
 // 50, 51, 52 of a file that is accepted.
 fn answered_tells(file: &[u8], answers: &[u64]) -> Answer
@@ -20,11 +24,10 @@ fn answered_tells(file: &[u8], answers: &[u64]) -> Answer
 {
     let n = listed::data_count(Kind::EB11, file);
     let none: [u32; 0] = [];
-    let mut numbers = [0u32; LIMIT];
-    let mut firsts = [n as u16; table::SLOTS];
+    let mut links = [0u16; LINKS];
     let spacing = repeats::spacing(Kind::EB11);
-    table::fill(file, &none, spacing, n, &mut numbers, &mut firsts);
-    let of_changes = others::changes_tell(file, n, &numbers, &firsts);
+    chains::chain(file, &none, spacing, n, &mut links);
+    let of_changes = others::changes_tell(file, n, &links);
     if of_changes.number != 0 {
         return of_changes;
     }
@@ -32,7 +35,7 @@ fn answered_tells(file: &[u8], answers: &[u64]) -> Answer
     if of_answers.number != 0 {
         return of_answers;
     }
-    others::splits_tell(file, answers, n, &numbers, &firsts)
+    others::splits_tell(file, answers, n, &links)
 }
 
 // What is told of any bytes as an EB11, and of any answers to it; the room is asked for last, by whoever writes.

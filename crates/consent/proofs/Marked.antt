@@ -32,10 +32,10 @@ use Rattle.consent.specs.Marks.{foundFor, markedAt, markedTo, goodTo, un
 
 -- the place that is looked up is that of the evidence
 pub found-by :
-    (e s places numbers firsts : List ℕ) (m i : ℕ) → Listed s places m numbers firsts →
+    (e s places links : List ℕ) (m i : ℕ) → Listed s places m links →
     placeIn (keyIn places keySpacing s) m (askedBy (enrolment e i)) ≡ foundFor e s i
 unfolding foundFor placeIn hasKeyIn
-found-by e s places numbers firsts m i t =
+found-by e s places links m i t =
     rw (← t .all)
     (least-same (hasKeyIn (keyIn places keySpacing s) (askedBy (enrolment e i))) (hasKeyIn (keyOf s) (askedBy (enrolment e i))) m
     (λ k h. ap (λ (l : List ℕ). same l (askedBy (enrolment e i))) (listed s places m (t .holds) k h)))

@@ -11,7 +11,7 @@ use Rattle.answers.specs.Answers.{accepted, refusedAt, refusesAt}
 use Rattle.keys.specs.declared.stands.Spacing.{Spacing}
 use Rattle.keys.specs.Keys.{placeIn}
 use Rattle.keys.specs.Stands.{keyIn, Inside}
-use Rattle.keys.specs.Hashes.{Tabled}
+use Rattle.keys.specs.Chains.{Chained}
 use Rattle.kinds.specs.Kinds.{EB13}
 use Rattle.records.specs.Records.{dataOf}
 use Rattle.evidence.specs.Blocks.{recordsIn}
@@ -43,9 +43,9 @@ unmarkedTold marks j = cond (eqb (getD marks j 0) 0) (refusedAt 21 (j + 1) 6 0x3
 abbrev pub keySpacing : Spacing
 keySpacing = record { stride = 0; offset = 45; size = 61 }
 
--- the places hold the first byte of each of m evidence records, and the table is that of their keys
-pub record Listed (s places : List ℕ) (m : ℕ) (numbers firsts : List ℕ) : Type 0 where
+-- the places hold the first byte of each of m evidence records, and their keys are chained
+pub record Listed (s places : List ℕ) (m : ℕ) (links : List ℕ) : Type 0 where
   pub all : m ≡ recordsIn s
   pub holds : (i : ℕ) → i < m → getD places i 0 ≡ byteOf s i
   pub inside : Inside places keySpacing s m
-  pub tabled : Tabled (keyIn places keySpacing s) m numbers firsts
+  pub chained : Chained (keyIn places keySpacing s) m links

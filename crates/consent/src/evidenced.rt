@@ -13,12 +13,16 @@ ghost use Rattle.consent.specs.Marks.{markedAt, markedTo, goodTo, unmark
 use crate::headers;
 use answers::told::Answer;
 use evidence::totals::KEY;
+use keys::chains;
+use keys::chains::SLOTS;
 use keys::places;
-use keys::table;
 use kinds::of_files::Kind;
 use kinds::of_files::LIMIT;
 use records::listed;
 use text::parts;
+
+// The links of the keys of all evidence.
+const LINKS: usize = SLOTS + LIMIT;
 
 // Enrolment i + 1; the evidence that it asks for is marked.
 fn enrolment_tells(
@@ -27,12 +31,11 @@ fn enrolment_tells(
     evidence: &[u8],
     starts: &[u32],
     m: usize,
-    numbers: &[u32],
-    firsts: &[u16],
+    links: &[u16],
     marks: &mut [u8],
 ) -> Answer
     requires { ⌜ i + 2 < countOf EB13 (now enrolments) ⌝ }
-    requires { ⌜ Listed (now evidence) (now starts) m (now numbers) (now firsts) ⌝ }
+    requires { ⌜ Listed (now evidence) (now starts) m (now links) ⌝ }
     requires { ⌜ m ≤ length (now marks) ⌝ }
     ensures { λ r. ⌜ r ≡ lacksTold (now (enrolments .entry)) (now (evidence .entry)) i ⌝ }
     ensures { λ _. ⌜ now (marks .exit) ≡ markedAt (now (enrolments .entry)) (now (evidence .entry)) i (now (marks .entry)) ⌝ }
@@ -40,7 +43,7 @@ fn enrolment_tells(
     let rec = listed::record_of(Kind::EB13, enrolments, i + 1);
     if parts::byte(rec, 25) == b'1' {
         let key = headers::asked(rec);
-        let j = places::place(evidence, starts, KEY, m, numbers, firsts, &key);
+        let j = places::place(evidence, starts, KEY, m, links, &key);
         if j < m {
             marks[j] = 1;
             return Answer::accepted();
@@ -56,11 +59,10 @@ fn enrolments_tell(
     evidence: &[u8],
     starts: &[u32],
     m: usize,
-    numbers: &[u32],
-    firsts: &[u16],
+    links: &[u16],
     marks: &mut [u8],
 ) -> Answer
-    requires { ⌜ Listed (now evidence) (now starts) m (now numbers) (now firsts) ⌝ }
+    requires { ⌜ Listed (now evidence) (now starts) m (now links) ⌝ }
     requires { ⌜ m ≤ length (now marks) ⌝ }
     ensures { λ r. ⌜ r ≡ firstTold (lacksTold (now (enrolments .entry)) (now (evidence .entry))) (dataOf EB13 (now (enrolments .entry))) ⌝ }
     ensures { λ _. ⌜ now (marks .exit) ≡ markedTo (now (enrolments .entry)) (now (evidence .entry)) (goodTo (now (enrolments .entry)) (now (evidence .entry))) (now (marks .entry)) ⌝ }
@@ -68,7 +70,7 @@ fn enrolments_tell(
     let n = listed::data_count(Kind::EB13, enrolments);
     let mut i = 0;
     while i < n {
-        let answer = enrolment_tells(enrolments, i, evidence, starts, m, numbers, firsts, marks);
+        let answer = enrolment_tells(enrolments, i, evidence, starts, m, links, marks);
         if answer.number != 0 {
             return answer;
         }
@@ -101,19 +103,10 @@ pub(crate) fn records_tell(enrolments: &[u8], evidence: &[u8], starts: &[u32], m
     requires { ⌜ ((i : ℕ) → i < m → byteOf (now evidence) i + 1024 ≤ length (now evidence)) ⌝ }
     ensures { λ r. ⌜ r ≡ (firstTold (lacksTold (now (enrolments .entry)) (now (evidence .entry))) (dataOf EB13 (now (enrolments .entry))) then firstTold (foreignTold (now (enrolments .entry)) (now (evidence .entry))) (recordsIn (now (evidence .entry)))) ⌝ }
 {
-    let mut numbers = [0u32; LIMIT];
-    let mut firsts = [m as u16; table::SLOTS];
-    table::fill(evidence, starts, KEY, m, &mut numbers, &mut firsts);
+    let mut links = [0u16; LINKS];
+    chains::chain(evidence, starts, KEY, m, &mut links);
     let mut marks = [0u8; LIMIT];
-    let of_enrolments = enrolments_tell(
-        enrolments,
-        evidence,
-        starts,
-        m,
-        &numbers,
-        &firsts,
-        &mut marks,
-    );
+    let of_enrolments = enrolments_tell(enrolments, evidence, starts, m, &links, &mut marks);
     if of_enrolments.number != 0 {
         return of_enrolments;
     }

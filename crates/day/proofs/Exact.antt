@@ -8,12 +8,13 @@ use native.Mathlib.Nat.{not-suc-le-zero}
 use native.Mathlib.Omega.{arith}
 use lib.ListN.{length}
 use Rattle.laws.specs.Joined.{joined}
+use Rattle.laws.specs.Least.{none, least}
 use Rattle.laws.proofs.Bools.{either, clash}
 use Rattle.laws.proofs.Joins.{joined-long}
 use Rattle.numbers.specs.Numbers.{digitsOf}
 use Rattle.answers.specs.OfDay.{dayAccepted}
 use Rattle.answers.proofs.OfDay.{day-number}
-use Rattle.day.specs.Contents.{form, countIn, nameIn, lengthIn, bodiesIn, contentsGood}
+use Rattle.day.specs.Contents.{formOne, formFor, countIn, nameIn, lengthIn, bodiesIn, contentsGood}
 use Rattle.day.specs.Bodies.{bodyIn, listTold}
 use Rattle.day.specs.Reading.{readOf}
 use Rattle.day.specs.Meets.{fileOf, Composed, Meets}
@@ -97,9 +98,9 @@ read-exact s = (forth, back)
         good-list (m .name) (λ i. length (m .body i)) (m .count) (joined (m .body) (m .count)) (composed-listed (m .count) (m .name) (m .body) s k)
 
 -- a day of no bodies is accepted
-pub empty-day : readOf (form ∷ 0x30 ∷ 0x30 ∷ []) ≡ dayAccepted
-unfolding fileOf digitsOf joined
-empty-day = read-exact (form ∷ 0x30 ∷ 0x30 ∷ []) .1 (record {
+pub empty-day : readOf (formOne ∷ 0x30 ∷ 0x30 ∷ []) ≡ dayAccepted
+unfolding fileOf digitsOf joined formFor none least
+empty-day = read-exact (formOne ∷ 0x30 ∷ 0x30 ∷ []) .1 (record {
   count = 0;
   name = λ i. [];
   body = λ i. [];

@@ -1,4 +1,5 @@
 -- Laws about the definitions of specs/.
+pub mod Forms
 pub mod Contained
 pub mod Joined
 pub mod Listed
@@ -10,3 +11,4 @@ pub mod Exact
 pub mod Cut
 pub mod Places
 pub mod One
+pub mod Formed

@@ -17,7 +17,7 @@ use Rattle.answers.specs.OfDay.{dayAccepted, dayRefuses}
 use Rattle.answers.specs.Lying.{isOne, caseOf, firstOf, sizeOf}
 use Rattle.answers.proofs.Lies.{one-true}
 use Rattle.answers.proofs.OfDay.{day-number, day-zero}
-use Rattle.day.specs.Contents.{entryAt, countIn, lengthIn, bodiesIn}
+use Rattle.day.specs.Contents.{endIn, countIn, lengthIn, bodiesIn}
 use Rattle.day.specs.Bodies.{bodyIn}
 use Rattle.day.specs.Reading.{readOf, bodyStart, liesIn, shownOf}
 use Rattle.day.specs.Parts.{Filled, Inside, Shows}
@@ -27,7 +27,7 @@ use Rattle.day.proofs.Cut.{long-said}
 -- a body, by where it begins
 pub body-there : (s : List ℕ) (i : ℕ) → bodyIn (lengthIn s) (bodiesIn s) i ≡ part (bodyStart s i) (lengthIn s i) s
 unfolding bodyIn bodiesIn bodyStart part
-body-there s i = ap (take (lengthIn s i)) (drop-drop (sum (lengthIn s) i) (entryAt (countIn s)) s)
+body-there s i = ap (take (lengthIn s i)) (drop-drop (sum (lengthIn s) i) (endIn s) s)
 
 -- *Parts*: they follow one another and fill the file
 pub bodies-fill : (s : List ℕ) → readOf s ≡ dayAccepted → Filled s

@@ -17,11 +17,11 @@ use Rattle.answers.specs.Lying.{isOne}
 use Rattle.answers.proofs.Lies.{one-true}
 use Rattle.answers.proofs.OfDay.{day-number, day-is, day-not}
 use Rattle.keys.specs.Stands.{keyIn}
-use Rattle.day.specs.Contents.{most, entryAt, countIn, nameIn, lengthIn, bodiesIn, contentsGood}
+use Rattle.day.specs.Contents.{most, entryAt, namesAt, widthIn, countIn, nameIn, lengthIn, bodiesIn, contentsGood}
 use Rattle.day.specs.Bodies.{sizeAt, listTold}
 use Rattle.day.specs.Reading.{readOf, bodyStart, liesIn, shownOf}
 use Rattle.day.specs.First.{Contents}
-use Rattle.day.proofs.Contained.{names, contents-good, name-key, size-in}
+use Rattle.day.proofs.Contained.{contents-good, name-key, size-in}
 use Rattle.day.proofs.Listed.{list-same}
 
 module _ (s : List ℕ) where
@@ -42,12 +42,12 @@ module _ (s : List ℕ) where
 
   -- by names as keys at a fixed distance, and a list of lengths
   pub read-by :
-      (n : ℕ) (lengths bodies : List ℕ) → n ≡ countIn s → lengths ≡ tabulate (lengthIn s) n ++ drop n (replicate most 0) → bodies ≡ drop (entryAt n) s →
-      contentsGood s ≡ true → listTold (keyIn [] names s) (sizeAt lengths) n bodies ≡ readOf s
+      (width n : ℕ) (lengths bodies : List ℕ) → width ≡ widthIn s → n ≡ countIn s → lengths ≡ tabulate (lengthIn s) n ++ drop n (replicate most 0) →
+      bodies ≡ drop (entryAt width n) s → contentsGood s ≡ true → listTold (keyIn [] (namesAt width) s) (sizeAt lengths) n bodies ≡ readOf s
   unfolding bodiesIn
-  read-by n lengths bodies e l b t =
-      list-same (keyIn [] names s) (nameIn s) (sizeAt lengths) (lengthIn s) n bodies (λ i h. name-key s i) (λ i h. rw l (size-in s n i h)) ∙
-      rw (b, e) (sym (read-list t))
+  read-by width n lengths bodies w e l b t =
+      list-same (keyIn [] (namesAt width) s) (nameIn s) (sizeAt lengths) (lengthIn s) n bodies (λ i h. rw w (name-key s i)) (λ i h. rw l (size-in s n i h)) ∙
+      rw (b, w, e) (sym (read-list t))
 
   module _ (k : ℕ) where
     pub shown-refused : (readOf s .number ≡ 0 → ⊥) → record { answer = readOf s; lies = Refused } ≡ shownOf s k
@@ -60,16 +60,17 @@ module _ (s : List ℕ) where
       shown-nowhere z e f = rw (day-not (readOf s) z, ← e, f)
 
       pub shown-from :
-          (lengths : List ℕ) (total : ℕ) → readOf s .number ≡ 0 → n ≡ countIn s → lengths ≡ tabulate (lengthIn s) n ++ drop n (replicate most 0) →
-          total ≡ sum (sizeAt lengths) (k - 1) → isOne k n ≡ true →
-          record { answer = readOf s; lies = From (n * 13 + 3 + total) (getD lengths (k - 1) 0) } ≡ shownOf s k
+          (width : ℕ) (lengths : List ℕ) (total : ℕ) → readOf s .number ≡ 0 → width ≡ widthIn s → n ≡ countIn s →
+          lengths ≡ tabulate (lengthIn s) n ++ drop n (replicate most 0) → total ≡ sum (sizeAt lengths) (k - 1) → isOne k n ≡ true →
+          record { answer = readOf s; lies = From (entryAt width n + total) (getD lengths (k - 1) 0) } ≡ shownOf s k
       unfolding shownOf liesIn bodyStart sizeAt
-      shown-from lengths total z e l t one =
+      shown-from width lengths total z w e l t one =
           let o = one-true k n one in
           let in-list : (i : ℕ) → i < n → getD lengths i 0 ≡ lengthIn s i = λ i h. rw l (size-in s n i h) in
           rw (
             day-not (readOf s) z,
             ← e,
+            ← w,
             one,
             ← in-list (k - 1) (omega (arith, o .0, o .1)),
             t ∙ sum-same (sizeAt lengths) (lengthIn s) (k - 1) (λ i h. in-list i (omega (arith, h, o .1))),

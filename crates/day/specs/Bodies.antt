@@ -17,7 +17,7 @@ use Rattle.kinds.specs.Kinds.{dailyOf}
 use Rattle.reader.specs.Reading.{readNamed}
 use Rattle.day.specs.Contents.{lengthEnd}
 
--- lengths by a list of them, and that each of n has five digits
+-- lengths by a list of them, and that each of n has at most six digits
 unfoldable pub sizeAt : List ℕ → ℕ → ℕ
 sizeAt lengths i = getD lengths i 0
 

@@ -17,18 +17,19 @@ use Rattle.answers.specs.Answers.{accepted, refused, refusedAt}
 use Rattle.answers.specs.OfDay.{dayAccepted, badContents, otherLength, repeatedName, refusedBody}
 use Rattle.keys.specs.Keys.{repeatsIn, Distinct}
 use Rattle.reader.specs.Reading.{readAs}
-use Rattle.day.specs.Contents.{form, most, front, entryAt, countIn, digitsIn, nameIn, lengthIn, bodiesIn}
+use Rattle.day.specs.Contents.{most, front, formFor, endIn, countIn, digitsIn, nameIn, lengthIn, bodiesIn}
 use Rattle.day.specs.Bodies.{bodyIn}
 use Rattle.day.specs.Meets.{Belongs}
 
--- the bytes begin with the contents of a day: the form, two digits, at most 16 entries, all there, each with the digits of a length
+-- the bytes begin with the contents of a day: a form, two digits, at most 16 entries, all there, each with the digits of a length;
+-- and the form is the one that the lengths need: "2" where one is over 99,999, else "1"
 pub record Contents (s : List ℕ) : Type 0 where
   pub fewest : front ≤ length s
-  pub formed : getD s 0 0 ≡ form
   pub counted : digits (part 1 2 s) ≡ true
   pub few : countIn s ≤ most
-  pub whole : entryAt (countIn s) ≤ length s
+  pub whole : endIn s ≤ length s
   pub lengths : (i : ℕ) → i < countIn s → digits (digitsIn s i) ≡ true
+  pub formed : getD s 0 0 ≡ formFor (lengthIn s) (countIn s)
 
 -- n bodies that make up all bytes behind the contents, under names of which no two are the same
 pub record Listed (name : ℕ → List ℕ) (size : ℕ → ℕ) (n : ℕ) (bodies : List ℕ) : Type 0 where

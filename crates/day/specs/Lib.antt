@@ -7,3 +7,4 @@ pub mod First
 pub mod Holds
 pub mod Parts
 pub mod One
+pub mod Long

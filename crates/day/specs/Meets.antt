@@ -8,23 +8,23 @@ use Rattle.laws.specs.Part.{part}
 use Rattle.numbers.specs.Numbers.{wordOf, digitsOf}
 use Rattle.answers.specs.Answers.{accepted}
 use Rattle.keys.specs.Keys.{Distinct}
-use Rattle.day.specs.Contents.{form, most, lengthEnd}
+use Rattle.day.specs.Contents.{formFor, widthFor, most, lengthEnd}
 use Rattle.day.specs.Bodies.{readDaily}
 
--- the entry of body i + 1: its name and five digits of its length
-unfoldable pub entryOf : (ℕ → List ℕ) → (ℕ → ℕ) → ℕ → List ℕ
-entryOf name size i = name i ++ digitsOf 5 (size i)
+-- the entry of body i + 1: its name and the digits of its length, so many
+unfoldable pub entryOf : ℕ → (ℕ → List ℕ) → (ℕ → ℕ) → ℕ → List ℕ
+entryOf width name size i = name i ++ digitsOf width (size i)
 
--- the day file of n bodies: the form, two digits for how many, the entries, the bodies
+-- the day file of n bodies: the form that their lengths need, two digits for how many, the entries, the bodies
 unfoldable pub fileOf : (ℕ → List ℕ) → (ℕ → ℕ) → ℕ → List ℕ → List ℕ
-fileOf name size n bodies = (form ∷ []) ++ (digitsOf 2 n ++ (joined (entryOf name size) n ++ bodies))
+fileOf name size n bodies = (formFor size n ∷ []) ++ (digitsOf 2 n ++ (joined (entryOf (widthFor size n) name size) n ++ bodies))
 
 -- a body is accepted as the kind of a day file that its name says, and item 4 of its header is the name
 pub record Belongs (name body : List ℕ) : Type 0 where
   pub good : readDaily (wordOf name) body ≡ accepted
   pub item4 : part 19 8 body ≡ name
 
--- its name has eight bytes, and its length five digits
+-- its name has eight bytes, and its length at most six digits
 pub record Fits (name body : List ℕ) : Type 0 where
   pub named : length name ≡ 8
   pub short : length body < lengthEnd

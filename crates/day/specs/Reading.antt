@@ -10,7 +10,7 @@ use Rattle.answers.specs.declared.lying.Lies.{Lies}
 use Rattle.answers.specs.declared.lying.Lies.the-variants.{Refused, From, Nowhere}
 use Rattle.answers.specs.OfDay.{badContents, dayRefuses, counting}
 use Rattle.answers.specs.Lying.{isOne}
-use Rattle.day.specs.Contents.{entryAt, countIn, nameIn, lengthIn, bodiesIn, contentsGood}
+use Rattle.day.specs.Contents.{endIn, countIn, nameIn, lengthIn, bodiesIn, contentsGood}
 use Rattle.day.specs.Bodies.{listTold}
 
 -- what reading any bytes says
@@ -23,7 +23,7 @@ countedOf s = counting (readOf s) (countIn s)
 
 -- where body i + 1 begins
 unfoldable pub bodyStart : List ℕ → ℕ → ℕ
-bodyStart s i = entryAt (countIn s) + sum (lengthIn s) i
+bodyStart s i = endIn s + sum (lengthIn s) i
 
 -- where body k of a file that is accepted lies; bodies count from 1
 unfoldable pub liesIn : List ℕ → ℕ → Lies

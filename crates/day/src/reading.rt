@@ -3,9 +3,8 @@ ghost use mathlib.Core.Path.{_≡_};
 ghost use Rattle.day.specs.Reading.{readOf, countedOf, shownOf};
 use crate::bodies;
 use crate::contents;
-use crate::contents::ENTRY;
 use crate::contents::FRONT;
-use crate::contents::NAMES;
+use crate::contents::NAME;
 use answers::lying;
 use answers::lying::Lies;
 use answers::of_day::DayAnswer;
@@ -18,10 +17,11 @@ fn look(file: &[u8]) -> DayAnswer
     ensures { λ r. ⌜ r ≡ readOf (now (file .entry)) ⌝ }
 {
     if contents::good(file) {
+        let width = contents::width_in(file);
         let n = contents::count(file);
-        let lengths = contents::lengths(file, n);
-        let behind = parts::rest(file, n * ENTRY + FRONT);
-        return bodies::list_tells(file, NAMES, &lengths, n, behind);
+        let lengths = contents::lengths(file, width, n);
+        let behind = parts::rest(file, n * (NAME + width) + FRONT);
+        return bodies::list_tells(file, contents::names(width), &lengths, n, behind);
     }
     DayAnswer::refused(30)
 }
@@ -54,8 +54,9 @@ pub fn body(file: &[u8], number: u64) -> DayShown
     let n = contents::count(file);
     if lying::is_one(number, n as u64) {
         let i = (number - 1) as usize;
-        let lengths = contents::lengths(file, n);
-        let start = n * ENTRY + FRONT + bodies::total(&lengths, i) as usize;
+        let width = contents::width_in(file);
+        let lengths = contents::lengths(file, width, n);
+        let start = n * (NAME + width) + FRONT + bodies::total(&lengths, i) as usize;
         return DayShown {
             answer,
             lies: Lies::From(start, lengths[i] as usize),

@@ -12,7 +12,7 @@ use Rattle.answers.specs.declared.of_day.DayTold.{DayTold}
 use Rattle.answers.specs.OfDay.{dayAccepted, shortRoom}
 use Rattle.answers.specs.Storing.{atFront}
 use Rattle.answers.proofs.OfDay.{day-is, day-not}
-use Rattle.day.specs.Contents.{entryAt}
+use Rattle.day.specs.Contents.{widthFor, entryAt}
 use Rattle.day.specs.Bodies.{sizeAt}
 use Rattle.day.proofs.Filed.{file-long}
 use Rattle.day_writer.specs.Writing.{nameOf, decided, fileFor, writeTold, writeOf, writeAfter}
@@ -21,7 +21,7 @@ use Rattle.day_writer.proofs.Decides.{name-long}
 
 module _ (names lengths bodies : List ℕ) where
   -- how long the file is
-  pub for-long : Given names lengths → length (fileFor names lengths bodies) ≡ entryAt (length lengths) + length bodies
+  pub for-long : Given names lengths → length (fileFor names lengths bodies) ≡ entryAt (widthFor (sizeAt lengths) (length lengths)) (length lengths) + length bodies
   unfolding fileFor
   for-long g = file-long (nameOf names) (sizeAt lengths) (length lengths) (name-long names lengths g) bodies
 

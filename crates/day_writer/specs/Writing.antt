@@ -18,7 +18,7 @@ use Rattle.day.specs.Meets.{fileOf}
 unfoldable pub nameOf : List ℕ → ℕ → List ℕ
 nameOf names i = part (i * 8) 8 names
 
--- n names, at most 16; and a length that five digits do not say
+-- n names, at most 16; and a length that six digits do not say
 unfoldable pub namesGood : List ℕ → ℕ → Bool
 namesGood names n = leb n most && eqb (length names) (n * 8)
 

@@ -24,7 +24,7 @@ fn names_good(names: &[u8], n: usize) -> bool
     n <= MOST && names.len() == n * NAME
 }
 
-// Every length has five digits.
+// No length has more than six digits.
 fn lengths_good(lengths: &[u64]) -> bool
     ensures { λ r. ⌜ r ≡ none (tooLong (now (lengths .entry))) (length (now (lengths .entry))) ⌝ }
 {

@@ -6,8 +6,9 @@ use crate::deciding;
 use crate::storing;
 use answers::of_day::DayAnswer;
 use answers::of_day::DayTold;
-use day::contents::ENTRY;
+use day::contents;
 use day::contents::FRONT;
+use day::contents::NAME;
 
 // Writes the day file at the front of the room, or says why not and leaves the room as it was.
 pub fn write(names: &[u8], lengths: &[u64], bodies: &[u8], room: &mut [u8]) -> DayTold
@@ -18,7 +19,9 @@ pub fn write(names: &[u8], lengths: &[u64], bodies: &[u8], room: &mut [u8]) -> D
     if answer.number != 0 {
         return DayTold { answer, count: 0 };
     }
-    let size = lengths.len() * ENTRY + FRONT + bodies.len();
+    let n = lengths.len();
+    let width = contents::width(contents::form_for(lengths, n));
+    let size = n * (NAME + width) + FRONT + bodies.len();
     if room.len() < size {
         return DayTold {
             answer: DayAnswer::refused(8),

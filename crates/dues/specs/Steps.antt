@@ -3,9 +3,8 @@ use Prim.Native.Nat.{ℕ, _+_, _≤_}
 use mathlib.Core.Bool.{Bool, cond, not, _&&_}
 use mathlib.Core.List.{List, [], _++_}
 use lib.Dec.{eqb}
-use lib.ListN.{length, getD, drop, replicate}
+use lib.ListN.{length, getD, drop}
 use Rattle.laws.specs.Tabulate.{tabulate}
-use Rattle.kinds.specs.Kinds.{limit}
 use Rattle.kinds.specs.declared.of_pairs.PairNamed.{PairNamed}
 use Rattle.kinds.specs.declared.of_pairs.PairNamed.the-variants.{Is, Unknown}
 use Rattle.kinds.specs.Pairs.{requestKind, pairOf}
@@ -26,14 +25,10 @@ use Rattle.payers.specs.Payers.{dueTells}
 use Rattle.dues.specs.Posting.{readyTold, datesNamed, boardTold, datesAfter}
 use Rattle.payers.specs.Turns.{payerSpacing, duesKey}
 
--- before a member is looked at: the answer; where it is no refusal, how many requests there are, the dates afterwards and what was taken of each request
+-- before a member is looked at: the answer; where it is no refusal, how many requests there are and the dates afterwards
 abbrev pub countNamed : PairNamed → List ℕ → ℕ
 countNamed (Is p) q = dataOf (requestKind p) q
 countNamed Unknown q = 0
-
-abbrev pub listNamed : PairNamed → List ℕ → List ℕ → List ℕ
-listNamed (Is p) q r = tabulate (takenAt p q r) (dataOf (requestKind p) q) ++ drop (dataOf (requestKind p) q) (replicate limit 0)
-listNamed Unknown q r = replicate limit 0
 
 unfoldable pub readyCount : ℕ → List ℕ → List ℕ → List ℕ → ℕ
 readyCount kind q r dates = cond (refuses (readyTold kind q r dates)) 0 (countNamed (pairOf kind) q)
@@ -41,20 +36,24 @@ readyCount kind q r dates = cond (refuses (readyTold kind q r dates)) 0 (countNa
 unfoldable pub readyDates : ℕ → List ℕ → List ℕ → List ℕ → List ℕ
 readyDates kind q r dates = cond (refuses (readyTold kind q r dates)) dates (datesNamed (pairOf kind) q dates)
 
-unfoldable pub readyList : ℕ → List ℕ → List ℕ → List ℕ → List ℕ
-readyList kind q r dates = cond (refuses (readyTold kind q r dates)) (replicate limit 0) (listNamed (pairOf kind) q r)
-
 abbrev pub readyOf : ℕ → List ℕ → List ℕ → List ℕ → Ready
 readyOf kind q r dates = record {
   answer = readyTold kind q r dates;
   n = readyCount kind q r dates;
   dates = readyDates kind q r dates;
-  taken = readyList kind q r dates;
 }
 
--- a refusal: no requests, the dates as they were, and nothing taken
+-- a refusal: no requests, and the dates as they were
 abbrev pub unready : Answer → List ℕ → Ready
-unready a dates = record { answer = a; n = 0; dates = dates; taken = replicate limit 0 }
+unready a dates = record { answer = a; n = 0; dates = dates }
+
+-- a lent list after it: what was taken of each request and what stood past them, or as it was
+abbrev pub listNamed : PairNamed → List ℕ → List ℕ → List ℕ → List ℕ
+listNamed (Is p) q r old = tabulate (takenAt p q r) (dataOf (requestKind p) q) ++ drop (dataOf (requestKind p) q) old
+listNamed Unknown q r old = old
+
+unfoldable pub readyList : ℕ → List ℕ → List ℕ → List ℕ → List ℕ → List ℕ
+readyList kind q r dates old = cond (refuses (readyTold kind q r dates)) old (listNamed (pairOf kind) q r old)
 
 abbrev pub step : Answer → Task → Step
 step a t = record { answer = a; task = t }

@@ -1,16 +1,16 @@
-// What is known before a member is looked at: the pair's answer and the date's, and what was taken of each request.
+// What is known before a member is looked at: the pair's answer and the date's, and what was taken of each request, in a lent list.
 ghost use mathlib.Core.Path.{_≡_};
-ghost use Prim.Native.Nat.{_≤_, _<_};
-ghost use lib.ListN.{length, replicate};
+ghost use Prim.Native.Nat.{ℕ, _≤_, _<_};
+ghost use lib.ListN.{length};
 ghost use Rattle.kinds.specs.declared.of_pairs.Family.the-variants.{Debit};
 ghost use Rattle.kinds.specs.declared.of_pairs.PairNamed.the-variants.{Is};
 ghost use Rattle.kinds.specs.Kinds.{limit};
 ghost use Rattle.kinds.specs.Pairs.{requestKind, pairOf};
 ghost use Rattle.records.specs.Records.{countOf};
 ghost use Rattle.dues.specs.Posting.{dateStart, later, dayOf, dateTells, datesAs};
-ghost use Rattle.dues.specs.Steps.{unready, readyOf};
+ghost use Rattle.dues.specs.Steps.{unready, readyOf, readyList};
+use crate::taking;
 use answers::told::Answer;
-use kinds::of_files::LIMIT;
 use kinds::of_files::Own;
 use kinds::of_pairs;
 use kinds::of_pairs::Family;
@@ -20,12 +20,11 @@ use pair::pairing;
 use records::listed;
 use text::parts;
 
-// The answer; where it is no refusal, how many requests there are, the dates afterwards, and what was taken of each request.
+// The answer; where it is no refusal, how many requests there are, and the dates afterwards.
 pub struct Ready {
     pub answer: Answer,
     pub n: usize,
     pub dates: [u8; 12],
-    pub taken: [u64; LIMIT],
 }
 
 // Six bytes are later than six others where they are greater at the first place in which they differ.
@@ -88,13 +87,6 @@ fn dates_after(pair: PairKind, request: &[u8], dates: [u8; 12]) -> [u8; 12]
     after
 }
 
-// Nothing is taken of any request.
-fn nothing() -> [u64; LIMIT]
-    ensures { λ r. ⌜ r ≡ replicate limit 0 ⌝ }
-{
-    [0u64; LIMIT]
-}
-
 // A refusal: no requests, and the dates as they were.
 fn unready(answer: Answer, dates: [u8; 12]) -> Ready
     ensures { λ r. ⌜ r ≡ unready answer dates ⌝ }
@@ -103,19 +95,23 @@ fn unready(answer: Answer, dates: [u8; 12]) -> Ready
         answer,
         n: 0,
         dates,
-        taken: nothing(),
     }
 }
 
-// A debit pair: its answer, then its date.
-fn ready_as(kind: u64, pair: PairKind, request: &[u8], result: &[u8], dates: [u8; 12]) -> Ready
-    requires { ⌜ pairOf kind ≡ Is pair ⌝ }
+// A debit pair: its answer, then its date; only then the list is filled.
+fn ready_as(
+    pair: PairKind,
+    request: &[u8],
+    result: &[u8],
+    dates: [u8; 12],
+    taken: &mut [u64],
+) -> Ready
     requires { ⌜ pair .family ≡ Debit ⌝ }
-    ensures { λ r. ⌜ r ≡ readyOf kind (now (request .entry)) (now (result .entry)) dates ⌝ }
+    requires { ⌜ limit ≤ length (now taken) ⌝ }
+    ensures { λ r. ⌜ ((kind : ℕ) → pairOf kind ≡ Is pair → r ≡ readyOf kind (now (request .entry)) (now (result .entry)) dates) ⌝ }
+    ensures { λ _. ⌜ ((kind : ℕ) → pairOf kind ≡ Is pair → now (taken .exit) ≡ readyList kind (now (request .entry)) (now (result .entry)) dates (now (taken .entry))) ⌝ }
 {
-    let mut taken = nothing();
-    let mut not_taken = nothing();
-    let answer = pairing::pair(kind, request, result, &mut taken, &mut not_taken);
+    let answer = pairing::pair_by(pair, request, result, true);
     if answer.number != 0 {
         return unready(answer, dates);
     }
@@ -125,33 +121,48 @@ fn ready_as(kind: u64, pair: PairKind, request: &[u8], result: &[u8], dates: [u8
     }
     let n = listed::data_count(of_pairs::request_kind(pair), request);
     let after = dates_after(pair, request, dates);
+    taking::fill(pair, request, result, n, taken);
     Ready {
         answer: told,
         n,
         dates: after,
-        taken,
     }
 }
 
 // Enrolment takes no money.
-fn ready_in(kind: u64, pair: PairKind, request: &[u8], result: &[u8], dates: [u8; 12]) -> Ready
-    requires { ⌜ pairOf kind ≡ Is pair ⌝ }
-    ensures { λ r. ⌜ r ≡ readyOf kind (now (request .entry)) (now (result .entry)) dates ⌝ }
+fn ready_in(
+    pair: PairKind,
+    request: &[u8],
+    result: &[u8],
+    dates: [u8; 12],
+    taken: &mut [u64],
+) -> Ready
+    requires { ⌜ limit ≤ length (now taken) ⌝ }
+    ensures { λ r. ⌜ ((kind : ℕ) → pairOf kind ≡ Is pair → r ≡ readyOf kind (now (request .entry)) (now (result .entry)) dates) ⌝ }
+    ensures { λ _. ⌜ ((kind : ℕ) → pairOf kind ≡ Is pair → now (taken .exit) ≡ readyList kind (now (request .entry)) (now (result .entry)) dates (now (taken .entry))) ⌝ }
 {
     let family = pair.family;
     match family {
         Family::Enrolment => unready(Answer::refused(1), dates),
-        Family::Debit => ready_as(kind, pair, request, result, dates),
+        Family::Debit => ready_as(pair, request, result, dates, taken),
     }
 }
 
 // What any bytes, as a request and its result, and the dates of earlier postings say before a member is looked at.
-pub fn ready_of(kind: u64, request: &[u8], result: &[u8], dates: [u8; 12]) -> Ready
-    ensures { λ r. ⌜ r ≡ readyOf kind (now (request .entry)) (now (result .entry)) dates ⌝ }
+// The lent list has what was taken of each request and what stood past them, and is as it was on a refusal.
+pub fn ready_of(
+    kind: u64,
+    request: &[u8],
+    result: &[u8],
+    dates: [u8; 12],
+    taken: &mut [u64],
+) -> Ready
+    requires { ⌜ limit ≤ length (now taken) ⌝ }
+    ensures { λ r. ⌜ (r ≡ readyOf kind (now (request .entry)) (now (result .entry)) dates) × (now (taken .exit) ≡ readyList kind (now (request .entry)) (now (result .entry)) dates (now (taken .entry))) ⌝ }
 {
     let named = of_pairs::pair_of(kind);
     match named {
-        PairNamed::Is(known) => ready_in(kind, known, request, result, dates),
+        PairNamed::Is(known) => ready_in(known, request, result, dates, taken),
         PairNamed::Unknown => unready(Answer::refused(1), dates),
     }
 }

@@ -77,7 +77,9 @@ pub fn marking(
             task: Task::Rest,
         };
     }
-    chains::chain(request, PAYERS, n, links);
+    let none: [u32; 0] = [];
+    chains::clear(links);
+    chains::chain(request, &none, PAYERS, n, links);
     mark_unmet(n, room);
     Step {
         answer: told,

@@ -11,7 +11,7 @@ use writer::writing;
 
 // The bodies of the first n data records, one after the other; of fewer where the file has not so many.
 pub(crate) fn put_bodies(kind: Kind, file: &[u8], n: usize, to: &mut [u8])
-    requires { ⌜ n < 100000 ⌝ }
+    requires { ⌜ n < 1000000 ⌝ }
 {
     let size = Fixed::of(kind).body;
     let mut i = 0;
@@ -24,8 +24,8 @@ pub(crate) fn put_bodies(kind: Kind, file: &[u8], n: usize, to: &mut [u8])
 // Whether what the file is taken apart into writes the file.
 pub(crate) fn same(name: u64, file: &[u8]) -> bool {
     let kind = values::kind(name);
-    let mut bodies = io::large_buffer();
-    let mut room = io::large_buffer();
+    let mut bodies = crate::space();
+    let mut room = crate::space();
     let taken = storing::take_apart(name, file, &mut bodies);
     writing::write(
         name,

@@ -6,16 +6,16 @@ use words::fields;
 
 // Where a record begins.
 pub(crate) fn start(size: usize, number: usize) -> usize
-    requires { ⌜ size ≤ 100000 ⌝ }
-    requires { ⌜ number ≤ 100000 ⌝ }
-    ensures { λ r. ⌜ r ≤ 10000000000 ⌝ }
+    requires { ⌜ size ≤ 1000000 ⌝ }
+    requires { ⌜ number ≤ 1000000 ⌝ }
+    ensures { λ r. ⌜ r ≤ 1000000000000 ⌝ }
 {
     number * size
 }
 
 // Puts what one word says.
 fn change(file: &mut [u8], size: usize, word: &[u8])
-    requires { ⌜ size ≤ 100000 ⌝ }
+    requires { ⌜ size ≤ 1000000 ⌝ }
 {
     let place = fields::head(b'=', word);
     let from = start(size, values::count(fields::head(b'@', place)));
@@ -25,7 +25,7 @@ fn change(file: &mut [u8], size: usize, word: &[u8])
 
 // Puts what each word says.
 pub(crate) fn change_all(file: &mut [u8], size: usize, words: &[u8])
-    requires { ⌜ size ≤ 100000 ⌝ }
+    requires { ⌜ size ≤ 1000000 ⌝ }
 {
     let mut left = words;
     while 0 < left.len() {

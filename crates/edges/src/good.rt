@@ -7,23 +7,24 @@ use crate::values;
 use numbers::base_ten;
 use words::fields;
 
-// Puts the last three of a number's eight digits; the others are the sample's.
+// Puts the last four of a number's eight digits; the others are the sample's.
 fn put_number(file: &mut [u8], at: usize, n: usize)
-    requires { ⌜ at ≤ 100000000000 ⌝ }
+    requires { ⌜ at ≤ 10000000000000 ⌝ }
 {
     let n = n as u64;
     let digits = [
-        base_ten::digit_at(n, 3, 0),
-        base_ten::digit_at(n, 3, 1),
-        base_ten::digit_at(n, 3, 2),
+        base_ten::digit_at(n, 4, 0),
+        base_ten::digit_at(n, 4, 1),
+        base_ten::digit_at(n, 4, 2),
+        base_ten::digit_at(n, 4, 3),
     ];
-    files::put(file, at + 5, &digits);
+    files::put(file, at + 4, &digits);
 }
 
 // Data record i: the sample's three over and over, each with its own number.
 fn put_data(file: &mut [u8], sample: &[u8], size: usize, i: usize)
-    requires { ⌜ size ≤ 100000 ⌝ }
-    requires { ⌜ (1 ≤ i) × (i ≤ 100000) ⌝ }
+    requires { ⌜ size ≤ 1000000 ⌝ }
+    requires { ⌜ (1 ≤ i) × (i ≤ 1000000) ⌝ }
 {
     let at = changes::start(size, i);
     files::put(file, at, fields::field((i - 1) % 3 + 2, b'\n', sample));
@@ -33,8 +34,8 @@ fn put_data(file: &mut [u8], sample: &[u8], size: usize, i: usize)
 
 // Header, n data records, trailer.
 fn put_all(file: &mut [u8], sample: &[u8], size: usize, n: usize)
-    requires { ⌜ size ≤ 100000 ⌝ }
-    requires { ⌜ n < 100000 ⌝ }
+    requires { ⌜ size ≤ 1000000 ⌝ }
+    requires { ⌜ n < 1000000 ⌝ }
 {
     files::put(file, 0, fields::field(1, b'\n', sample));
     let mut i = 0;

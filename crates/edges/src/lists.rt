@@ -1,8 +1,17 @@
 // The two lists that are lent to a pairing.
+ghost use mathlib.Core.Path.{_≡_};
+ghost use lib.ListN.{length};
 use crate::told;
 
 // What every place of a list holds before it is lent: more than any amount.
-pub(crate) const UNTOUCHED: u64 = 1_000_000_000_000_000;
+const UNTOUCHED: u64 = 1_000_000_000_000_000;
+
+// A list with a place more than a file may have requests.
+pub(crate) fn untouched() -> [u64; 2001]
+    ensures { λ r. ⌜ 2001 ≡ length r ⌝ }
+{
+    [UNTOUCHED; 2001]
+}
 
 // A place of a list; a hyphen where it is as it was.
 fn tell_place(n: u64) {

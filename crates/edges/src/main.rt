@@ -16,11 +16,11 @@ ghost use mathlib.Core.Path.{_≡_};
 ghost use lib.ListN.{length};
 use libc::STDIN_FILENO;
 
-// Room for all of standard input.
-pub(crate) fn space() -> [u8; 262144]
-    ensures { λ r. ⌜ 262144 ≡ length r ⌝ }
+// Room for all of standard input, and for a file of more records than a file may have.
+pub(crate) fn space() -> [u8; 327680]
+    ensures { λ r. ⌜ 327680 ≡ length r ⌝ }
 {
-    [0; 262144]
+    [0; 327680]
 }
 
 // The samples and the list of cases stand on standard input, which is held whole.

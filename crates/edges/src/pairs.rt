@@ -28,10 +28,10 @@ fn run_pair(
 
 // The lists are as long as the line says.
 fn run_lists(line: &[u8], kind: u64, request: &[u8], result: &[u8]) {
-    let t = files::at_most(9, values::count(fields::field(3, b' ', line)));
-    let u = files::at_most(9, values::count(fields::field(4, b' ', line)));
-    let mut taken = [lists::UNTOUCHED; 9];
-    let mut not_taken = [lists::UNTOUCHED; 9];
+    let t = files::at_most(2001, values::count(fields::field(3, b' ', line)));
+    let u = files::at_most(2001, values::count(fields::field(4, b' ', line)));
+    let mut taken = lists::untouched();
+    let mut not_taken = lists::untouched();
     run_pair(
         line,
         kind,
@@ -72,8 +72,8 @@ fn run_outcomes(name: &[u8], kind: u64, request: &[u8], result: &[u8], records: 
 
 // Every case has files and lists of its own, so that none sees another's.
 pub(crate) fn run(samples: &[u8], line: &[u8]) {
-    let mut request = io::buffer();
-    let mut result = io::buffer();
+    let mut request = crate::space();
+    let mut result = crate::space();
     let q = good::build(samples, fields::field(1, b'|', line), &mut request);
     let r = good::build(samples, fields::field(2, b'|', line), &mut result);
     let kind = base_ten::word(fields::field(2, b' ', line));

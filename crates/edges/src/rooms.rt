@@ -16,10 +16,10 @@ use words::fields;
 // What every place of the room holds before it is lent: no file ends with it.
 const UNTOUCHED: u8 = 0x81;
 
-pub(crate) fn untouched() -> [u8; 65536]
-    ensures { λ r. ⌜ 65536 ≡ length r ⌝ }
+pub(crate) fn untouched() -> [u8; 327680]
+    ensures { λ r. ⌜ 327680 ≡ length r ⌝ }
 {
-    [UNTOUCHED; 65536]
+    [UNTOUCHED; 327680]
 }
 
 // How many bytes at the end of the room are as they were; all of them where it was left alone.

@@ -15,10 +15,10 @@ pub(crate) fn number(s: &[u8]) -> u64 {
 
 // A number that counts records or bytes; nothing where it is too large.
 pub(crate) fn count(s: &[u8]) -> usize
-    ensures { λ r. ⌜ r < 100000 ⌝ }
+    ensures { λ r. ⌜ r < 1000000 ⌝ }
 {
     let n = number(s);
-    if n < 100000 {
+    if n < 1000000 {
         return n as usize;
     }
     0

@@ -34,7 +34,7 @@ fn write_into(line: &[u8], name: u64, bodies: &[u8], room: &mut [u8]) {
 // Lends as much room as the line says.
 fn lend(line: &[u8], name: u64, bodies: &[u8]) {
     let mut room = rooms::untouched();
-    let lent = files::at_most(65536, values::count(fields::field(3, b' ', line)));
+    let lent = files::at_most(327680, values::count(fields::field(3, b' ', line)));
     write_into(line, name, bodies, &mut room[..lent]);
 }
 
@@ -42,15 +42,12 @@ fn lend(line: &[u8], name: u64, bodies: &[u8]) {
 pub(crate) fn run(samples: &[u8], line: &[u8]) {
     let name = base_ten::word(fields::field(2, b' ', line));
     let said = fields::after(5, b' ', line);
-    let mut file = io::large_buffer();
-    let mut bodies = io::large_buffer();
+    let mut file = crate::space();
+    let mut bodies = crate::space();
     let n = good::build(samples, said, &mut file);
-    // zeros make a record whole that the file's end cuts
-    let mut longer = crate::space();
-    files::put(&mut longer, 0, &file);
     again::put_bodies(
         values::kind(name),
-        &longer,
+        &file,
         values::count(fields::field(1, b' ', said)),
         &mut bodies,
     );

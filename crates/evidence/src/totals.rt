@@ -8,9 +8,10 @@ ghost use Rattle.evidence.specs.Judged.{byteOf};
 ghost use Rattle.evidence.specs.Reading.{countTold, countsTold, keysTold};
 use crate::blocks;
 use answers::told::Answer;
+use keys::chains;
+use keys::chains::SLOTS;
 use keys::repeats;
 use keys::stands::Spacing;
-use keys::table;
 use kinds::of_files::LIMIT;
 use numbers::base_ten;
 use text::parts;
@@ -21,6 +22,9 @@ pub const KEY: Spacing = Spacing {
     offset: 45,
     size: 61,
 };
+
+// The links of the keys of a file.
+const LINKS: usize = SLOTS + LIMIT;
 
 fn count_tells(said: bool, rec: u64, item: u64) -> Answer
     ensures { λ r. ⌜ r ≡ countTold said rec item ⌝ }
@@ -69,10 +73,9 @@ pub(crate) fn keys_tell(file: &[u8], places: &[u32], n: usize) -> Answer
     requires { ⌜ ((i : ℕ) → i < n → byteOf (now file) i + 1024 ≤ length (now file)) ⌝ }
     ensures { λ r. ⌜ r ≡ keysTold (now (file .entry)) ⌝ }
 {
-    let mut numbers = [0u32; LIMIT];
-    let mut firsts = [n as u16; table::SLOTS];
-    table::fill(file, places, KEY, n, &mut numbers, &mut firsts);
-    let i = repeats::first_repeat(file, places, KEY, n, &numbers, &firsts);
+    let mut links = [0u16; LINKS];
+    chains::chain(file, places, KEY, n, &mut links);
+    let i = repeats::first_repeat(file, places, KEY, n, &links);
     if i < n {
         return Answer::refused_at(7, (i + 1) as u64, 6, Answer::UNUSED);
     }

@@ -16,9 +16,10 @@ use evidence_builder::units;
 use evidence_rows::by_role;
 use evidence_rows::by_role::NO_OWN;
 use evidence_units::framing;
+use keys::chains;
+use keys::chains::SLOTS;
 use keys::repeats;
 use keys::stands::Spacing;
-use keys::table;
 use kinds::of_files::LIMIT;
 use layout::judging;
 
@@ -28,6 +29,9 @@ const KEY: Spacing = Spacing {
     offset: 0,
     size: 61,
 };
+
+// The links of the keys of all units.
+const LINKS: usize = SLOTS + LIMIT;
 
 fn parts_tell(date: &[u8], code: &[u8]) -> Answer
     ensures { λ r. ⌜ r ≡ partsTold (now (date .entry)) (now (code .entry)) ⌝ }
@@ -55,10 +59,9 @@ fn keys_tell(x: &[u8], places: &[u32], n: usize) -> Answer
     requires { ⌜ ((i : ℕ) → i < n → placeOf (now x) i + 74 ≤ length (now x)) ⌝ }
     ensures { λ r. ⌜ r ≡ keysTold (now (x .entry)) ⌝ }
 {
-    let mut numbers = [0u32; LIMIT];
-    let mut firsts = [n as u16; table::SLOTS];
-    table::fill(x, places, KEY, n, &mut numbers, &mut firsts);
-    let i = repeats::first_repeat(x, places, KEY, n, &numbers, &firsts);
+    let mut links = [0u16; LINKS];
+    chains::chain(x, places, KEY, n, &mut links);
+    let i = repeats::first_repeat(x, places, KEY, n, &links);
     if i < n {
         return Answer::refused_at(7, (i + 1) as u64, 6, Answer::UNUSED);
     }

@@ -11,7 +11,7 @@ use native.Mathlib.Omega.{arith}
 use borrow.Author.Count.{below-more}
 use borrow.Author.Tests.{eq-eqb, eqb-true, eqb-false, ltb-true, ltb-false}
 use lib.Dec.{eqb, ltb}
-use lib.ListN.{length, getD, set, length-set, length-replicate, getD-replicate}
+use lib.ListN.{length, getD, set, replicate, length-set, length-replicate, getD-replicate}
 use lib.Seq.{getD-set-same, getD-set-other, ext-getD}
 use Rattle.laws.specs.Least.{some}
 use Rattle.laws.specs.Part.{same}
@@ -147,6 +147,15 @@ unfolding linksOf
 links-length key zero links = none-length links
 links-length key (suc n) links = with-length (key n) n (linksOf key n links) ∙ links-length key n links
 
+-- links of no key: what was cleared, and an array of zeros
+pub none-cleared : (old links : List ℕ) → links ≡ noLinks old → links ≡ noLinks links
+unfolding noLinks
+none-cleared old links e = e ∙ rw (e, length-replicate (length old))
+
+pub none-zeros : (n : ℕ) → replicate n 0 ≡ noLinks (replicate n 0)
+unfolding noLinks
+none-zeros n = rw length-replicate
+
 -- a loop that clears the links from the front
 abbrev pub Cleared : ℕ → List ℕ → Type 0
 Cleared i links = (k : ℕ) → k < i → getD links k 0 ≡ 0
@@ -160,18 +169,19 @@ unfolding noLinks
 cleared-all old links e f =
     ext-getD 0 links _ (e ∙ sym (length-replicate (length old) 0)) (λ k h. let l = rw e at h in f k l ∙ sym (getD-replicate (length old) k 0 0 l))
 
--- a loop that chains key after key, in links that were cleared
-pub links-start : (key : ℕ → List ℕ) (old links : List ℕ) → links ≡ noLinks old → links ≡ linksOf key 0 links
-unfolding linksOf noLinks
-links-start key old links e = e ∙ rw (e, length-replicate (length old))
+-- a loop that chains key after key
+pub links-start : (key : ℕ → List ℕ) (links : List ℕ) → links ≡ noLinks links → links ≡ linksOf key 0 links
+unfolding linksOf
+links-start key links e = e
 
 pub links-more : (key : ℕ → List ℕ) (i : ℕ) (links : List ℕ) → linksOf key (i + 1) links ≡ linksWith (key i) i (linksOf key i links)
 unfolding linksOf
 links-more key i links = rw add-one
 
+-- in links that were cleared
 pub links-cleared : (key : ℕ → List ℕ) (n : ℕ) (old links : List ℕ) → links ≡ noLinks old → linksOf key n links ≡ linksOf key n old
 unfolding linksOf
-links-cleared key zero old links e = sym (links-start key old links e) ∙ e
+links-cleared key zero old links e = sym (none-cleared old links e) ∙ e
 links-cleared key (suc n) old links e = rw (links-cleared key n old links e)
 
 module _ (key : ℕ → List ℕ) where

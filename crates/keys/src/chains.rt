@@ -9,18 +9,19 @@ ghost use Rattle.keys.specs.Keys.{hasKeyIn};
 ghost use Rattle.keys.specs.Stands.{keyIn, Inside};
 ghost use Rattle.keys.specs.Chains.{slots, last, slotOf, Chained, Link, linksWith, noLinks, linksOf};
 use crate::hashes;
-use crate::slots;
 use crate::stands;
 use crate::stands::Spacing;
-use crate::table::SLOTS;
 use text::parts;
 
+// Slots for up to some two thousand keys: a prime, of those near it the one that spreads payers numbered one after another best.
+pub const SLOTS: usize = 4051;
+
 // The slot of a key.
-fn slot_of(key: &[u8]) -> usize
+pub(crate) fn slot_of(key: &[u8]) -> usize
     ensures { λ r. ⌜ r ≡ slotOf (now (key .entry)) ⌝ }
     ensures { λ r. ⌜ r < slots ⌝ }
 {
-    slots::slot(hashes::hash(key), SLOTS)
+    hashes::hash(key) as usize % SLOTS
 }
 
 // No key is chained.
@@ -46,18 +47,18 @@ pub fn join(key: &[u8], i: usize, links: &mut [u16])
     links[b] = (i + 1) as u16;
 }
 
-// Chains the n keys of s, whatever the links held.
-pub fn chain(s: &[u8], spacing: Spacing, n: usize, links: &mut [u16])
-    requires { ⌜ Inside [] spacing (now s) n ⌝ }
+// Chains the n keys of s, in links of no key.
+pub fn chain(s: &[u8], places: &[u32], spacing: Spacing, n: usize, links: &mut [u16])
+    requires { ⌜ Inside (now places) spacing (now s) n ⌝ }
     requires { ⌜ n ≤ 65535 ⌝ }
     requires { ⌜ slots + n ≤ length (now links) ⌝ }
-    ensures { λ _. ⌜ now (links .exit) ≡ linksOf (keyIn [] spacing (now (s .entry))) n (now (links .entry)) ⌝ }
+    requires { ⌜ now links ≡ noLinks (now links) ⌝ }
+    ensures { λ _. ⌜ now (links .exit) ≡ linksOf (keyIn (now (places .entry)) spacing (now (s .entry))) n (now (links .entry)) ⌝ }
+    ensures { λ _. ⌜ Chained (keyIn (now (places .entry)) spacing (now (s .entry))) n (now (links .exit)) ⌝ }
 {
-    let none: [u32; 0] = [];
-    clear(links);
     let mut i = 0;
     while i < n {
-        join(stands::key_in(s, &none, spacing, i), i, links);
+        join(stands::key_in(s, places, spacing, i), i, links);
         i += 1;
     }
 }

@@ -3,6 +3,4 @@ pub mod chains;
 mod hashes;
 pub mod places;
 pub mod repeats;
-mod slots;
 pub mod stands;
-pub mod table;

@@ -15,7 +15,7 @@ use Rattle.kinds.specs.declared.of_files.Fixed.{Fixed}
 
 -- the most data records that a file may have
 abbrev pub limit : ℕ
-limit = 430
+limit = 2000
 
 -- bytes of items 1 to 3, with which every data record begins; a body is what follows
 abbrev pub front : ℕ

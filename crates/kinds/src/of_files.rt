@@ -3,7 +3,7 @@ ghost use mathlib.Core.Path.{_≡_};
 ghost use Rattle.kinds.specs.Kinds.{kindOf, requestOf, dailyOf, fixedOf, enrolment, debit};
 
 // The most data records that a file may have.
-pub const LIMIT: usize = 430;
+pub const LIMIT: usize = 2000;
 
 // What several kinds share: the layout of the records and what goes with it.
 pub enum Form {

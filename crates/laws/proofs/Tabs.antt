@@ -1,14 +1,14 @@
 -- The laws of `tabulate`: a loop that fills from the front, and what stands at a place.
 -- Assumes nothing.
-use Prim.Native.Nat.{ℕ, zero, suc, _+_, _<_}
+use Prim.Native.Nat.{ℕ, zero, suc, _+_, _-_, _≤_, _<_}
 use mathlib.Core.List.{List, [], _∷_, _++_, append-assoc}
-use mathlib.Core.Path.{_≡_, refl, sym, _∙_}
+use mathlib.Core.Path.{_≡_, refl, sym, _∙_, ap}
 use mathlib.Core.Logic.{⊎-elim}
 use native.Mathlib.Nat.{le-of-eq, eq-or-lt-of-le, le-of-suc-le-suc, not-suc-le-zero}
 use native.Mathlib.Numerals.{add-one}
 use native.Mathlib.Omega.{arith}
 use lib.ListN.{length, getD, take, drop, set, length-append, List·getD-append}
-use lib.Seq.{take-suc-set, take-all, ext-getD, getD-at, drop-cons, set-at}
+use lib.Seq.{take-suc-set, take-all, ext-getD, getD-at, getD-append-add, getD-drop, drop-cons, set-at}
 use Rattle.laws.specs.Tabulate.{tabulate}
 
 module _ (f : ℕ → ℕ) where
@@ -66,3 +66,10 @@ module _ (f : ℕ → ℕ) (old : List ℕ) where
 
   pub fill-at : (n i : ℕ) → i < n → getD (tabulate f n ++ drop n old) i 0 ≡ f i
   fill-at n i l = List·getD-append (tabulate f n) (drop n old) 0 i (rw (tab-length f n) l) ∙ tab-at f n i l
+
+  pub fill-past : (n i : ℕ) → n ≤ i → getD (tabulate f n ++ drop n old) i 0 ≡ getD old i 0
+  fill-past n i l =
+      let e : length (tabulate f n) + (i - n) ≡ i = rw (tab-length f n) (omega arith) in
+      let d : n + (i - n) ≡ i = omega arith in
+      ap (λ (k : ℕ). getD (tabulate f n ++ drop n old) k 0) (sym e) ∙
+      (getD-append-add (tabulate f n) (drop n old) (i - n) 0 ∙ (getD-drop n old (i - n) 0 ∙ ap (λ (k : ℕ). getD old k 0) d))

@@ -86,7 +86,7 @@ fn outcome_as(pair: PairKind, request: &[u8], result: &[u8], rec: u64) -> Told
     if asks_for(n as u64, rec) {
         let i = (rec - 1) as usize;
         let results = lookup::results_for(pair, request, result);
-        let outcome = outcome_at(pair, request, result, i, results[i]);
+        let outcome = outcome_at(pair, request, result, i, results[i] as usize);
         return told(Answer::accepted(), outcome);
     }
     told(Answer::refused(15), Outcome::None)

@@ -18,7 +18,7 @@ pub struct Sums {
 }
 
 // True sums over all requests, whose results were found; they fit since there are few.
-pub fn sums_of(pair: PairKind, request: &[u8], result: &[u8], results: &[usize]) -> Sums
+pub fn sums_of(pair: PairKind, request: &[u8], result: &[u8], results: &[u16]) -> Sums
     requires { ⌜ countOf (requestKind pair) (now request) ≤ limit + 2 ⌝ }
     requires { ⌜ now results ≡ resultsFor pair (now request) (now result) ⌝ }
     ensures { λ r. ⌜ r ≡ sumsOf pair (now (request .entry)) (now (result .entry)) ⌝ }
@@ -30,7 +30,7 @@ pub fn sums_of(pair: PairKind, request: &[u8], result: &[u8], results: &[usize])
     let mut i = 0;
     while i < n {
         let all = amounts::asked_at(pair, request, i);
-        let left = amounts::not_taken_by(pair, result, results[i]);
+        let left = amounts::not_taken_by(pair, result, results[i] as usize);
         asked += all;
         taken += amounts::rest(all, left);
         not_taken += left;

@@ -35,7 +35,7 @@ pub(crate) fn fill(
     let results = lookup::results_for(pair, request, result);
     let mut i = 0;
     while i < n {
-        let left = amounts::not_taken_by(pair, result, results[i]);
+        let left = amounts::not_taken_by(pair, result, results[i] as usize);
         taken[i] = amounts::rest(amounts::asked_at(pair, request, i), left);
         not_taken[i] = left;
         i += 1;

@@ -41,7 +41,7 @@ pub(crate) fn results_tell(
     pair: PairKind,
     request: &[u8],
     result: &[u8],
-    requests: &[usize],
+    requests: &[u16],
 ) -> Answer
     requires { ⌜ countOf (resultKind pair) (now result) ≤ limit + 2 ⌝ }
     requires { ⌜ now requests ≡ requestsFor pair (now request) (now result) ⌝ }
@@ -50,7 +50,7 @@ pub(crate) fn results_tell(
     let m = listed::data_count(of_pairs::result_kind(pair), result);
     let mut j = 0;
     while j < m {
-        let answer = result_tells(pair, request, result, j, requests[j]);
+        let answer = result_tells(pair, request, result, j, requests[j] as usize);
         if answer.number != 0 {
             return answer;
         }

@@ -21,7 +21,7 @@ use Rattle.payers.specs.Payers.{named, takenFrom, memberAfter, overNumbe
 
 -- how many payers are held at a time
 unfoldable pub held : ℕ
-held = 1024
+held = 2048
 
 -- where the held payers stand, one behind the other, and where those of debit requests do
 abbrev pub heldSpacing : Spacing

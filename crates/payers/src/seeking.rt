@@ -12,7 +12,7 @@ use keys::stands::Spacing;
 use text::parts;
 
 // How many payers are held at a time.
-pub const HELD: usize = 1024;
+pub const HELD: usize = 2048;
 
 // Where they stand: one behind the other.
 const PAYERS: Spacing = Spacing {

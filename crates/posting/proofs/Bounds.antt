@@ -16,7 +16,6 @@ use Rattle.laws.proofs.Bools.{either}
 use Rattle.laws.proofs.Leasts.{least-is}
 use Rattle.numbers.specs.Numbers.{letterOf}
 use Rattle.kinds.specs.Kinds.{EB21}
-use Rattle.kinds.specs.Kinds.{limit}
 use Rattle.answers.specs.declared.told.Answer.{Answer}
 use Rattle.answers.specs.Answers.{refuses}
 use Rattle.answers.proofs.Refusals.{refuses-zero}
@@ -29,9 +28,9 @@ use Rattle.outcomes.specs.declared.sums.Sums.{Sums}
 use Rattle.outcomes.specs.Outcomes.{makerIn, numbersOf}
 use Rattle.posting.specs.Decimal.{lastLeft, widthOf}
 use Rattle.posting.specs.Lines.{numberThen, codeThen, acceptedWord, refusedWord, wholeWord, partWord, wordFor, noneEnd, bankEnd, centreEnd, makerEnd, refusalLine, acceptedLine, requestLine, lineMost}
-use Rattle.posting.specs.Posting.{longest, postTells, lineAt, acceptedText, postText, postSize, postAfter}
+use Rattle.posting.specs.Posting.{requests, longest, postTells, lineAt, acceptedText, postText, postSize, postAfter}
 use Rattle.posting.proofs.Widths.{number-length}
-use Rattle.posting.proofs.Posted.{size-fits, after-fits, posted-known}
+use Rattle.posting.proofs.Posted.{requests-few, size-fits, after-fits, posted-short}
 
 -- a number of at most 20 digits and what follows it; a code and what follows it
 number-most : (n end : ℕ) → length (numberThen n end) ≤ 21
@@ -105,10 +104,10 @@ module _ (q r : List ℕ) where
   abbrev n : ℕ
   n = dataOf EB21 q
 
-  lines-most : n ≤ limit → length (acceptedText q r) ≤ longest
+  lines-most : n ≤ requests → length (acceptedText q r) ≤ longest
   unfolding acceptedText lineAt
   lines-most few =
-      let lines : length (joined (lineAt q r) n) ≤ limit * lineMost = omega (arith, joined-most (lineAt q r) lineMost n (λ i. request-most (i + 1) _)) in
+      let lines : length (joined (lineAt q r) n) ≤ requests * lineMost = omega (arith, joined-most (lineAt q r) lineMost n (λ i. request-most (i + 1) _)) in
       rw length-append (add-le-add (accepted-most n _) lines)
 
   -- *The text is bounded*: of any two files it is no longer than `longest`, so a buffer of that size always holds it
@@ -121,8 +120,7 @@ module _ (q r : List ℕ) where
 
       good : refuses (postTells q r) ≡ false → length (postText q r) ≤ longest
       good f =
-          let known = posted-known q r (postTells q r) refl (refuses-zero (postTells q r) f) in
-          rw f (lines-most (omega (arith, known .request .lengths .most)))
+          rw f (lines-most (requests-few q (posted-short q r (postTells q r) refl (refuses-zero (postTells q r) f))))
 
   -- and it is never empty
   pub text-some : 0 < length (postText q r)

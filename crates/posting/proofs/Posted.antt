@@ -4,15 +4,18 @@ use Prim.Native.Nat.{ℕ, _+_, _-_, _≤_, _<_}
 use mathlib.Core.Bool.{true}
 use mathlib.Core.List.{List, _++_}
 use mathlib.Core.Path.{_≡_, sym, _∙_}
+use mathlib.Core.Logic.{⊎-elim}
 use native.Mathlib.Omega.{arith}
-use borrow.Author.Tests.{le-leb, lt-leb}
+use borrow.Author.Tests.{le-leb, lt-leb, ltb-false}
+use lib.Dec.{ltb}
 use lib.ListN.{length, drop}
 use Rattle.laws.proofs.Sums.{sum-add}
+use Rattle.laws.proofs.Bools.{either}
 use Rattle.kinds.specs.Kinds.{EB21}
 use Rattle.answers.specs.declared.told.Answer.{Answer}
 use Rattle.answers.specs.Answers.{_then_}
 use Rattle.answers.proofs.Refusals.{refuses-is, refuses-not, then-first, then-second, then-zero}
-use Rattle.records.specs.Records.{dataOf}
+use Rattle.records.specs.Records.{countOf, dataOf}
 use Rattle.kinds.specs.Pairs.{debitPair}
 use Rattle.matching.specs.Amounts.{askedAt, takenAt, notTakenAt}
 use Rattle.outcomes.specs.Outcomes.{asksFor, outcomeAs}
@@ -21,7 +24,16 @@ use Rattle.outcomes.specs.Sums.{sumsOf}
 use Rattle.pair.proofs.Matched.{Paired, pair-known}
 use Rattle.pair.proofs.Money.{each-request}
 use Rattle.posting.specs.Lines.{refusalLine, requestLine}
-use Rattle.posting.specs.Posting.{sizeTells, postTells, lineAt, acceptedText, postText, postSize, postAfter}
+use Rattle.posting.specs.Posting.{most, requests, sizeTells, postTells, lineAt, acceptedText, postText, postSize, postAfter}
+
+-- a file that is not refused for its size, and how many requests it has
+size-taken : (side : ℕ) (s : List ℕ) → sizeTells side s .number ≡ 0 → length s ≤ most
+unfolding sizeTells
+size-taken side s e = ⊎-elim (λ t. absurd (omega (arith, rw t at e))) (λ f. ltb-false most (length s) f) (either (ltb most (length s)))
+
+pub requests-few : (s : List ℕ) → length s ≤ most → dataOf EB21 s ≤ requests
+unfolding countOf
+requests-few s h = omega (arith, h)
 
 module _ (q r : List ℕ) where
   -- the stages: the request's size, the result's, the pair
@@ -64,7 +76,11 @@ module _ (q r : List ℕ) where
   unfolding postAfter
   after-short text h = rw (lt-leb (length (postText q r)) (length text) h)
 
-  -- where nothing is refused the pair is accepted
+  -- where nothing is refused neither file is too long, and the pair is accepted
+  pub posted-short : (a : Answer) → a ≡ postTells q r → a .number ≡ 0 → length q ≤ most
+  unfolding postTells
+  posted-short a e z = size-taken 1 q (then-zero (sizeTells 1 q) (sizeTells 2 r then pairBy debitPair q r true) (rw e at z) .0)
+
   pub posted-pair : postTells q r .number ≡ 0 → pairBy debitPair q r true .number ≡ 0
   unfolding postTells
   posted-pair e =

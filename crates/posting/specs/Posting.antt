@@ -1,12 +1,11 @@
 -- The posting program's output for two files, and a lent buffer after it.
-use Prim.Native.Nat.{ℕ, _+_, _*_}
+use Prim.Native.Nat.{ℕ, _+_, _-_, _*_, _/_}
 use mathlib.Core.Bool.{true, cond}
 use mathlib.Core.List.{List, _++_}
 use lib.Dec.{leb, ltb}
 use lib.ListN.{length, drop}
 use Rattle.laws.specs.Joined.{joined}
-use Rattle.kinds.specs.Kinds.{EB21}
-use Rattle.kinds.specs.Kinds.{limit}
+use Rattle.kinds.specs.Kinds.{EB21, fixedOf}
 use Rattle.answers.specs.declared.told.Answer.{Answer}
 use Rattle.answers.specs.Answers.{refused, refuses, _then_, accepted}
 use Rattle.records.specs.Records.{dataOf}
@@ -20,9 +19,13 @@ use Rattle.posting.specs.Lines.{refusalLine, acceptedLine, requestLine, 
 abbrev pub most : ℕ
 most = 64800
 
+-- the most requests that such a file has
+abbrev pub requests : ℕ
+requests = most / fixedOf EB21 .size - 2
+
 -- room for the longest text: a first line, and a line for each request
 abbrev pub longest : ℕ
-longest = 100 + limit * lineMost
+longest = 100 + requests * lineMost
 
 -- 3 on its side where a file is longer, the request first
 unfoldable pub sizeTells : ℕ → List ℕ → Answer

@@ -8,13 +8,13 @@ ghost use Rattle.kinds.specs.Pairs.{debitPair};
 ghost use Rattle.records.specs.Records.{countOf, dataOf};
 ghost use Rattle.matching.specs.Matching.{resultsFor};
 ghost use Rattle.posting.specs.Lines.{lineMost};
-ghost use Rattle.posting.specs.Posting.{longest, sizeTells, postTells, lineAt, acceptedText, postText, postSize, postAfter};
+ghost use Rattle.posting.specs.Posting.{most, longest, sizeTells, postTells, lineAt, acceptedText, postText, postSize, postAfter};
 ghost use Rattle.laws.specs.Stored.{stored};
 use crate::lines;
 use crate::puts;
 use answers::told::Answer;
+use kinds::of_files::Fixed;
 use kinds::of_files::Kind;
-use kinds::of_files::LIMIT;
 use kinds::of_pairs::PairKind;
 use matching::lookup;
 use outcomes::asking;
@@ -25,8 +25,11 @@ use records::listed;
 // The longest file that the program takes.
 const MOST: usize = 64_800;
 
+// The most requests that such a file has.
+const REQUESTS: usize = MOST / Fixed::DEBIT_SIZE - 2;
+
 // Room for the longest text: a first line, and a line for each request.
-pub const LONGEST: usize = 100 + LIMIT * lines::LINE;
+pub const LONGEST: usize = 100 + REQUESTS * lines::LINE;
 
 // 3 on its side where a file is longer.
 fn size_tells(side: u64, file: &[u8]) -> Answer
@@ -63,7 +66,7 @@ fn post_tells(request: &[u8], result: &[u8]) -> Answer
 fn put_requests(
     request: &[u8],
     result: &[u8],
-    results: &[usize],
+    results: &[u16],
     n: usize,
     text: &mut [u8],
     at: usize,
@@ -79,7 +82,7 @@ fn put_requests(
     let mut place = at;
     let mut i = 0;
     while i < n {
-        let outcome = asking::outcome_at(PairKind::DEBIT, request, result, i, results[i]);
+        let outcome = asking::outcome_at(PairKind::DEBIT, request, result, i, results[i] as usize);
         place = lines::put_request(text, place, (i + 1) as u64, outcome);
         i += 1;
     }
@@ -87,7 +90,8 @@ fn put_requests(
 }
 
 // The totals, then the requests.
-fn put_all(request: &[u8], result: &[u8], results: &[usize], text: &mut [u8]) -> usize
+fn put_all(request: &[u8], result: &[u8], results: &[u16], text: &mut [u8]) -> usize
+    requires { ⌜ length (now request) ≤ most ⌝ }
     requires { ⌜ countOf EB21 (now request) ≤ limit + 2 ⌝ }
     requires { ⌜ now results ≡ resultsFor debitPair (now request) (now result) ⌝ }
     requires { ⌜ longest ≤ length (now text) ⌝ }

@@ -9,13 +9,17 @@ ghost use Rattle.keys.specs.Stands.{keyIn, Inside};
 ghost use Rattle.records.specs.Records.{countOf};
 ghost use Rattle.reader.specs.Keys.{spacingOf, keysTell};
 use answers::told::Answer;
+use keys::chains;
+use keys::chains::SLOTS;
 use keys::repeats;
 use keys::stands::Spacing;
-use keys::table;
 use kinds::of_files::Fixed;
 use kinds::of_files::Kind;
 use kinds::of_files::LIMIT;
 use records::listed;
+
+// The links of the keys of a file.
+const LINKS: usize = SLOTS + LIMIT;
 
 // Where the keys of a file stand: one in each data record.
 pub fn spacing(kind: Kind) -> Spacing
@@ -37,10 +41,9 @@ pub fn first_repeat(s: &[u8], spacing: Spacing, n: usize) -> usize
     ensures { λ r. ⌜ r ≡ least (repeatsIn (keyIn [] spacing (now (s .entry)))) n ⌝ }
 {
     let none: [u32; 0] = [];
-    let mut numbers = [0u32; LIMIT];
-    let mut firsts = [n as u16; table::SLOTS];
-    table::fill(s, &none, spacing, n, &mut numbers, &mut firsts);
-    repeats::first_repeat(s, &none, spacing, n, &numbers, &firsts)
+    let mut links = [0u16; LINKS];
+    chains::chain(s, &none, spacing, n, &mut links);
+    repeats::first_repeat(s, &none, spacing, n, &links)
 }
 
 // The smallest record number that repeats an earlier key.

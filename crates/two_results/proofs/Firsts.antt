@@ -7,11 +7,13 @@ use mathlib.Core.Path.{_≡_, refl, sym, _∙_}
 use native.Mathlib.Omega.{arith}
 use borrow.Author.Tests.{eq-eqb, ne-eqb}
 use lib.ListN.{getD}
+use mir.Syntax.{w64}
+use mir.Val.{Fits}
 use Rattle.laws.specs.Least.{least}
 use Rattle.laws.proofs.Leasts.{least-stop, number-here, number-none}
 use Rattle.kinds.specs.declared.of_files.Kind.{Kind}
 use Rattle.kinds.specs.declared.of_pairs.PairKind.{PairKind}
-use Rattle.kinds.specs.Pairs.{requestKind}
+use Rattle.kinds.specs.Pairs.{requestKind, resultKind}
 use Rattle.answers.specs.Answers.{accepted}
 use Rattle.records.specs.Records.{dataOf}
 use Rattle.reader.specs.Reading.{readAs}
@@ -19,11 +21,19 @@ use Rattle.reader.specs.Meets.{Lengths}
 use Rattle.reader.proofs.Exact.{read-exact}
 use Rattle.matching.specs.Matching.{resultsFor}
 use Rattle.matching.specs.Amounts.{takenAt, notTakenBy, notTakenAt}
-use Rattle.matching.proofs.Found.{left-of}
+use Rattle.matching.proofs.Found.{left-of, result-fits}
+use Rattle.pair.specs.First.{BothRead}
 use Rattle.two_results.specs.Comparing.{sameAt, otherAt, firstOther}
 
 pub lengths-of : (k : Kind) (s : List ℕ) → readAs k s ≡ accepted → Lengths k s
 lengths-of k s e = read-exact k s .0 e .lengths
+
+-- the place of the result that is found for a request fits a word
+pub result-at :
+    (p : PairKind) (q r : List ℕ) → BothRead p q r → (list : List ℕ) → list ≡ resultsFor p q r →
+    (i n : ℕ) → n ≡ dataOf (requestKind p) q → i < n → Fits w64 (getD list i 0)
+result-at p q r b list found i n count h =
+    result-fits p q r list found (omega (arith, lengths-of (requestKind p) q (b .request) .most)) (omega (arith, lengths-of (resultKind p) r (b .result) .most)) i (rw count at h)
 
 -- what the result that is found for a request says was not taken
 pub left-at :

@@ -26,8 +26,8 @@ fn first_other(pair: PairKind, request: &[u8], first: &[u8], second: &[u8]) -> u
     let by_second = lookup::results_for(pair, request, second);
     let mut i = 0;
     while i < n {
-        let left = amounts::not_taken_by(pair, first, by_first[i]);
-        if left != amounts::not_taken_by(pair, second, by_second[i]) {
+        let left = amounts::not_taken_by(pair, first, by_first[i] as usize);
+        if left != amounts::not_taken_by(pair, second, by_second[i] as usize) {
             return (i + 1) as u64;
         }
         i += 1;

@@ -1,6 +1,6 @@
 -- The sums of the records that are built, one record more at a time.
 -- Assumes nothing.
-use Prim.Native.Nat.{ℕ, _+_, _≤_, _<_, _^_}
+use Prim.Native.Nat.{ℕ, _+_, _*_, _≤_, _<_, _^_}
 use mathlib.Core.Bool.{Bool, true, false, cond}
 use mathlib.Core.List.{List, [], _∷_}
 use mathlib.Core.Path.{_≡_, refl, sym}
@@ -49,7 +49,7 @@ worth-small (MarkedByCentre b) rec = if-small (eqb (markOf rec) b) _ (10 ^ 13) (
 
 module _ (k : Kind) (header bodies : List ℕ) where
   -- so a sum fits
-  pub sums-small : (i : ℕ) → i ≤ limit → (t : ℕ) → t < mostTotals → getD (tabulate (sumTo k header bodies i) mostTotals) t 0 ≤ 10 ^ 16
+  pub sums-small : (i : ℕ) → i ≤ limit → (t : ℕ) → t < mostTotals → getD (tabulate (sumTo k header bodies i) mostTotals) t 0 ≤ limit * 10 ^ 13
   unfolding sumTo worthBuilt worthFor
   sums-small i h t l = rw (tab-at (sumTo k header bodies i) mostTotals t l) (omega (arith, sum-bound (worthBuilt k header bodies t) (10 ^ 13) i (λ j _. each j)))
     where

@@ -1,8 +1,9 @@
 // What the data records add up to, as they are built, and the trailer's totals against it.
 ghost use mathlib.Core.Path.{_≡_};
-ghost use Prim.Native.Nat.{ℕ, _+_, _≤_, _<_, _^_};
+ghost use Prim.Native.Nat.{ℕ, _+_, _*_, _≤_, _<_, _^_};
 ghost use lib.ListN.{length, getD};
 ghost use Rattle.laws.specs.Tabulate.{tabulate};
+ghost use Rattle.kinds.specs.Kinds.{limit};
 ghost use Rattle.tables.specs.Totals.{totalsOf, mostTotals};
 ghost use Rattle.records.specs.Records.{recordOf, countOf};
 ghost use Rattle.writer.specs.Writing.{worthFor, sumWith, sumTold, sumsTold};
@@ -30,7 +31,7 @@ fn worth_for(kind: Kind, frame: &[u8], t: usize) -> u64
 // The sums with record 1 of the frame.
 pub(crate) fn with_record(kind: Kind, frame: &[u8], sums: [u64; MOST_TOTALS]) -> [u64; MOST_TOTALS]
     requires { ⌜ 3 ≤ countOf kind (now frame) ⌝ }
-    requires { ⌜ ((t : ℕ) → t < mostTotals → getD sums t 0 ≤ 10 ^ 16) ⌝ }
+    requires { ⌜ ((t : ℕ) → t < mostTotals → getD sums t 0 ≤ limit * 10 ^ 13) ⌝ }
     ensures { λ r. ⌜ r ≡ tabulate (sumWith kind (recordOf kind (now (frame .entry)) 1) sums) mostTotals ⌝ }
 {
     let mut more = [0u64; MOST_TOTALS];

@@ -1,6 +1,6 @@
 //! Reading a day file: 30, 31, 32, then 33 for the first body that is refused.
 
-use super::layout::{bodies_start, kind_said, ENTRY_LENGTH, FORM, FRONT_LENGTH, MOST_BODIES, NAME_LENGTH};
+use super::layout::{kind_said, Form, FRONT_LENGTH, MOST_BODIES, NAME_LENGTH};
 use crate::chars::number;
 use crate::model::{Answer, DayAnswer};
 use crate::read;
@@ -9,9 +9,15 @@ use std::collections::HashSet;
 /// The answer for one day file, and how many bodies it has.
 pub fn day_read(file: &[u8]) -> (DayAnswer, u64) {
     match open(file) {
-        Ok(bodies) => (DayAnswer::accepted(), bodies.len() as u64),
+        Ok(day) => (DayAnswer::accepted(), day.bodies.len() as u64),
         Err(answer) => (answer, 0),
     }
+}
+
+/// An accepted file.
+pub(super) struct Day<'a> {
+    pub(super) form: Form,
+    pub(super) bodies: Vec<Body<'a>>,
 }
 
 /// A body with the name that the contents give it.
@@ -20,28 +26,36 @@ pub(super) struct Body<'a> {
     pub(super) bytes: &'a [u8],
 }
 
-/// The bodies of an accepted file, or the reader's answer.
-pub(super) fn open(file: &[u8]) -> Result<Vec<Body<'_>>, DayAnswer> {
-    let contents = contents(file).ok_or(DayAnswer::alone(30))?;
-    let joined = &file[bodies_start(contents.len())..];
-    let bodies = parted(&contents, joined).ok_or(DayAnswer::alone(31))?;
+/// The file where it is accepted, or the reader's answer.
+pub(super) fn open(file: &[u8]) -> Result<Day<'_>, DayAnswer> {
+    let Contents { form, entries } = contents(file).ok_or(DayAnswer::alone(30))?;
+    let joined = &file[form.bodies_start(entries.len())..];
+    let bodies = parted(&entries, joined).ok_or(DayAnswer::alone(31))?;
     check_names(&bodies)?;
     check_bodies(&bodies)?;
-    Ok(bodies)
+    Ok(Day { form, bodies })
+}
+
+/// What stands before the bodies, but for their number.
+pub(super) struct Contents<'a> {
+    pub(super) form: Form,
+    pub(super) entries: Vec<Entry<'a>>,
 }
 
 /// A body's name, and how long it is.
 pub(super) type Entry<'a> = (&'a [u8], usize);
 
-/// What the table says, where it is whole and has its form.
-fn contents(file: &[u8]) -> Option<Vec<Entry<'_>>> {
+/// What the table says, where it is whole and in the form that its lengths want.
+fn contents(file: &[u8]) -> Option<Contents<'_>> {
     let (front, rest) = file.split_at_checked(FRONT_LENGTH)?;
-    let count = number(&front[1..])? as usize;
-    if front[0] != FORM || count > MOST_BODIES {
+    let (form, count) = (Form::said(front[0])?, number(&front[1..])? as usize);
+    if count > MOST_BODIES {
         return None;
     }
-    let entries = rest.get(..ENTRY_LENGTH * count)?.chunks_exact(ENTRY_LENGTH);
-    entries.map(entry).collect()
+    let table = rest.get(..form.entry_length() * count)?.chunks_exact(form.entry_length());
+    let entries: Vec<Entry> = table.map(entry).collect::<Option<_>>()?;
+    let wanted = Form::of(entries.iter().map(|&(_, length)| length as u64))?;
+    (wanted == form).then_some(Contents { form, entries })
 }
 
 /// None where the length isn't digits.
@@ -51,10 +65,10 @@ fn entry(bytes: &[u8]) -> Option<Entry<'_>> {
 }
 
 /// The bodies one behind the other; none where they are longer or shorter than the contents say.
-pub(super) fn parted<'a>(contents: &[Entry<'a>], joined: &'a [u8]) -> Option<Vec<Body<'a>>> {
+pub(super) fn parted<'a>(entries: &[Entry<'a>], joined: &'a [u8]) -> Option<Vec<Body<'a>>> {
     let mut bodies = Vec::new();
     let mut rest = joined;
-    for &(name, length) in contents {
+    for &(name, length) in entries {
         let (bytes, after) = rest.split_at_checked(length)?;
         bodies.push(Body { name, bytes });
         rest = after;

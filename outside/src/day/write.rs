@@ -1,7 +1,7 @@
 //! Writing a day file. Order: 30, 31, 32, 33 as in reading, then 8.
 
-use super::layout::{bodies_start, FORM, MOST_BODIES, MOST_LENGTH, NAME_LENGTH};
-use super::read::{check_bodies, check_names, parted, Entry};
+use super::layout::{Form, MOST_BODIES, NAME_LENGTH};
+use super::read::{check_bodies, check_names, parted, Contents};
 use crate::model::DayAnswer;
 
 /// Writes a day file into the room and says how long it is, or refuses and leaves the room as it was.
@@ -22,32 +22,33 @@ fn file_to_be_written(
     room: usize,
 ) -> Result<Vec<u8>, DayAnswer> {
     let contents = contents(names, lengths).ok_or(DayAnswer::alone(30))?;
-    let bodies = parted(&contents, joined).ok_or(DayAnswer::alone(31))?;
+    let bodies = parted(&contents.entries, joined).ok_or(DayAnswer::alone(31))?;
     check_names(&bodies)?;
     check_bodies(&bodies)?;
-    if room < bodies_start(contents.len()) + joined.len() {
+    if room < contents.form.bodies_start(bodies.len()) + joined.len() {
         return Err(DayAnswer::alone(8));
     }
     Ok(put_together(&contents, joined))
 }
 
-/// What the table can say: whole names, not too many, a length for each, and none that five digits cannot say.
-fn contents<'a>(names: &'a [u8], lengths: &[u64]) -> Option<Vec<Entry<'a>>> {
+/// What the table can say: whole names, not too many, a length for each, and none that the digits of no form can say.
+fn contents<'a>(names: &'a [u8], lengths: &[u64]) -> Option<Contents<'a>> {
     let count = names.len() / NAME_LENGTH;
     let whole = names.len().is_multiple_of(NAME_LENGTH) && lengths.len() == count;
-    if !whole || count > MOST_BODIES || lengths.iter().any(|&length| length > MOST_LENGTH) {
+    if !whole || count > MOST_BODIES {
         return None;
     }
+    let form = Form::of(lengths.iter().copied())?;
     let lengths = lengths.iter().map(|&length| length as usize);
-    Some(names.chunks_exact(NAME_LENGTH).zip(lengths).collect())
+    Some(Contents { form, entries: names.chunks_exact(NAME_LENGTH).zip(lengths).collect() })
 }
 
-fn put_together(contents: &[Entry], joined: &[u8]) -> Vec<u8> {
-    let mut file = vec![FORM];
-    file.extend(format!("{:02}", contents.len()).into_bytes());
-    for (name, length) in contents {
+fn put_together(Contents { form, entries }: &Contents, joined: &[u8]) -> Vec<u8> {
+    let mut file = vec![form.byte()];
+    file.extend(format!("{:02}", entries.len()).into_bytes());
+    for (name, length) in entries {
         file.extend_from_slice(name);
-        file.extend(format!("{length:05}").into_bytes());
+        file.extend(format!("{length:0digits$}", digits = form.digits()).into_bytes());
     }
     file.extend_from_slice(joined);
     file

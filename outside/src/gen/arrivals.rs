@@ -11,6 +11,13 @@ pub fn longest_file() -> usize {
     lengths.into_iter().fold(0, usize::max)
 }
 
+/// The longest files of both widths, and a byte less and more than the longest of all.
+fn longest_lengths() -> [u64; 4] {
+    let of = |kind: Kind| ((MOST_RECORDS + 2) * kind.record_length()) as u64;
+    let longest = of(Kind::EB21);
+    [of(Kind::EB13), longest - 1, longest, longest + 1]
+}
+
 /// How long the parts are in which so many bytes come: few or many, some empty, some of one byte, some large.
 pub fn any_cutting(rng: &mut Rng, length: usize) -> Vec<usize> {
     let mut parts = match rng.below(60) {
@@ -62,14 +69,14 @@ fn add_empty(rng: &mut Rng, parts: &mut Vec<usize>) {
 /// A room for a file of so many bytes: none, too short, exact, somewhat longer, or as long as the longest file or longer.
 pub fn any_arrival_room(rng: &mut Rng, length: usize) -> Vec<u8> {
     let longest = longest_file();
-    let size = match rng.below(100) {
-        0..=1 => 0,
-        2..=4 => length.saturating_sub(1),
-        5..=11 => rng.index(length + 1),
-        12..=49 => length,
-        50..=59 => length + 1,
-        60..=97 => length + rng.index(400),
-        98 => longest,
+    let size = match rng.below(500) {
+        0..=9 => 0,
+        10..=24 => length.saturating_sub(1),
+        25..=59 => rng.index(length + 1),
+        60..=249 => length,
+        250..=299 => length + 1,
+        300..=497 => length + rng.index(400),
+        498 => longest,
         _ => longest + rng.index(2_000),
     };
     any_memory(rng, size)
@@ -91,7 +98,8 @@ pub fn any_state(rng: &mut Rng, room: usize) -> [u64; 2] {
 pub fn kept_edges(room: usize) -> Vec<u64> {
     let room = room as u64;
     let mut edges = vec![0, 1, room.saturating_sub(1), room, room + 1];
-    edges.extend([240, 300, 450, 51_840, 64_799, 64_800, 64_801, 1 << 32, 1 << 63]);
+    edges.extend([240, 300, 450, 64_800, 1 << 32, 1 << 63]);
+    edges.extend(longest_lengths());
     edges.extend([FOLDED_FROM - 1, FOLDED_FROM, u64::MAX - FOLDED_FROM, u64::MAX - 1, u64::MAX]);
     edges
 }
@@ -99,7 +107,8 @@ pub fn kept_edges(room: usize) -> Vec<u64> {
 /// Second numbers of a state: about where lengths are folded, what folding can give and what it cannot, and the largest.
 pub fn past_edges() -> Vec<u64> {
     let last = FOLDED_FROM + FOLD - 1;
-    let mut edges = vec![0, 0, 1, 119, 120, 150, 240, 300, 600, 51_840, 64_800];
+    let mut edges = vec![0, 0, 1, 119, 120, 150, 240, 300, 600, 64_800];
+    edges.extend(longest_lengths());
     edges.extend([FOLDED_FROM - 1, FOLDED_FROM, FOLDED_FROM + 1, last - 1, last, last + 1, last + 2]);
     edges.extend([1 << 32, 1 << 63, ENDED - FOLDED_FROM, ENDED - FOLD, ENDED - 2, ENDED - 1, ENDED]);
     edges

@@ -40,8 +40,8 @@ pub fn any_eb12(rng: &mut Rng) -> Eb12Input {
 
 fn any_eb11(rng: &mut Rng) -> Vec<u8> {
     let mut draft = match rng.below(200) {
-        0 => return any_bytes(rng, KIND),
-        1 | 2 => return too_many(rng, KIND),
+        0 | 1 => return any_bytes(rng, KIND),
+        2 => return too_many(rng, KIND),
         3 => {
             let kind = rng.pick(&Kind::ALL);
             return file_of(rng, kind);

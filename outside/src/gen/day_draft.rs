@@ -28,11 +28,25 @@ impl DayDraft {
 
     /// The whole file; it is good when the names and bodies are, and are not too many.
     pub fn file(&self) -> Vec<u8> {
-        let mut file = b"1".to_vec();
+        if self.is_long() {
+            self.file_in(b'2', 6)
+        } else {
+            self.file_in(b'1', 5)
+        }
+    }
+
+    /// Whether five digits can't say how long some body is.
+    pub fn is_long(&self) -> bool {
+        self.bodies.iter().any(|body| body.file.len() > 99_999)
+    }
+
+    /// The same with this form byte and so many digits of each length, the last ones where it has more.
+    pub fn file_in(&self, form: u8, digits: usize) -> Vec<u8> {
+        let mut file = vec![form];
         file.extend(decimal(self.bodies.len() as u64, 2));
         for body in &self.bodies {
             file.extend(&body.name);
-            file.extend(decimal(body.file.len() as u64, 5));
+            file.extend(decimal(body.file.len() as u64, digits));
         }
         file.extend(self.joined());
         file
@@ -48,6 +62,7 @@ impl DayDraft {
     }
 
     pub fn joined(&self) -> Vec<u8> {
-        self.bodies.iter().flat_map(|body| body.file.clone()).collect()
+        // Joined piece by piece, since bodies may be long.
+        self.bodies.iter().map(|body| &body.file[..]).collect::<Vec<_>>().concat()
     }
 }

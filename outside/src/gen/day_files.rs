@@ -21,6 +21,6 @@ fn any_bytes(rng: &mut Rng) -> Vec<u8> {
     match rng.below(3) {
         0 => rng.bytes(length),
         1 => rng.from(SPECIAL_BYTES, length),
-        _ => [b"1".to_vec(), rng.from(b"00123 :", length)].concat(),
+        _ => [vec![rng.pick(b"12")], rng.from(b"00123 :", length)].concat(),
     }
 }

@@ -3,7 +3,7 @@
 use super::day_draft::{DayDraft, NamedBody};
 use super::draft::Draft;
 use super::random::Rng;
-use super::requests::{good_request, request_of};
+use super::requests::request_of;
 use super::results::{by_itself, result_of};
 use crate::layout::PairKind;
 use std::collections::HashSet;
@@ -39,8 +39,8 @@ pub fn day_of(rng: &mut Rng, n: usize) -> DayDraft {
 /// A request, its result, or both, which have one date; of few records where the day file has many bodies.
 fn some_drafts(rng: &mut Rng, bodies: usize) -> Vec<Draft> {
     let kind = rng.pick(&PairKind::ALL).request();
-    let records = rng.index(4);
-    let request = if bodies > 4 { request_of(rng, kind, records) } else { good_request(rng, kind) };
+    let records = if bodies > 4 { rng.index(4) } else { some_records(rng) };
+    let request = request_of(rng, kind, records);
     let result = result_of(rng, &request, true);
     // A result has fewer records than its request, so there are more of them.
     match rng.below(6) {
@@ -48,6 +48,17 @@ fn some_drafts(rng: &mut Rng, bodies: usize) -> Vec<Draft> {
         1..=3 => vec![by_itself(rng, result)],
         _ => vec![request, result],
     }
+}
+
+/// How many data records: mostly few. Bodies of very many are made elsewhere, since they are rare.
+fn some_records(rng: &mut Rng) -> usize {
+    (match rng.below(240) {
+        0 => rng.between(41, 660),
+        1..=9 => rng.between(7, 40),
+        10..=39 => 0,
+        40..=89 => 1,
+        _ => rng.between(2, 6),
+    }) as usize
 }
 
 /// The name in a file's header.

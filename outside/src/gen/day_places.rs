@@ -4,7 +4,21 @@ use super::texts::number;
 use std::ops::Range;
 
 pub(super) const FRONT: usize = 3;
-pub(super) const ENTRY: usize = 13;
+const NAME: usize = 8;
+
+/// How many digits a length has in this file: five, and six behind a "2".
+pub(super) fn digits_in(file: &[u8]) -> usize {
+    if file.first() == Some(&b'2') {
+        6
+    } else {
+        5
+    }
+}
+
+/// How long an entry of the contents is in this file.
+pub(super) fn entry_in(file: &[u8]) -> usize {
+    NAME + digits_in(file)
+}
 
 /// One body: where its name and its length stand in the contents, and where it lies itself.
 #[derive(Clone, Debug)]
@@ -17,10 +31,11 @@ pub struct DayPlace {
 /// What the contents say as far as they can be followed: entries that are there, and of bodies what is there.
 pub fn day_contents(file: &[u8]) -> Vec<DayPlace> {
     let count = file.get(1..FRONT).and_then(number).unwrap_or(0);
+    let entry = entry_in(file);
     let mut places = Vec::new();
-    let mut at = (FRONT + ENTRY * count).min(file.len());
-    for entry in (0..count).map(|before| FRONT + ENTRY * before) {
-        let (name, length) = (entry..entry + 8, entry + 8..entry + ENTRY);
+    let mut at = (FRONT + entry * count).min(file.len());
+    for start in (0..count).map(|before| FRONT + entry * before) {
+        let (name, length) = (start..start + NAME, start + NAME..start + entry);
         let Some(digits) = file.get(length.clone()) else {
             break;
         };

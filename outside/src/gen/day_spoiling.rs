@@ -1,22 +1,27 @@
 //! Day files are spoiled: their bodies and names before they are put together, and all of them afterwards.
 
 use super::day_changed::{
-    change_byte, change_count, change_end, change_entries, change_length, swap_entries,
+    change_byte, change_count, change_end, change_entries, change_form, change_length, swap_entries,
 };
 use super::day_draft::{DayDraft, NamedBody};
 use super::day_good::{day_of, good_day, name_of};
-use super::files::{any_bytes, too_many, unknown_kind};
+use super::day_long::{long_day, long_draft, nearly_long_day};
+use super::files::{any_bytes, unknown_kind};
 use super::items_changed::{change_total, copy_key};
 use super::random::Rng;
-use super::results::good_draft;
+use super::requests::request_of;
+use super::results::result_of;
 use super::spoiling::spoil;
 use super::texts::digits;
 use super::units::{cut, shift};
 use crate::day::layout::kind_said;
-use crate::layout::Kind;
+use crate::layout::{Kind, MOST_RECORDS};
 
 /// The bodies of a day file, good or spoiled.
 pub(super) fn some_bodies(rng: &mut Rng) -> DayDraft {
+    if rng.once_in(40) {
+        return long_bodies(rng);
+    }
     match rng.below(64) {
         0 => {
             let n = 16 + rng.pick(&[1, 1, 1, 1, 2, 2, 83, 84]);
@@ -34,16 +39,48 @@ pub(super) fn some_bodies(rng: &mut Rng) -> DayDraft {
 
 /// Every body is refused as often as any other, and with every number; now and then for its name.
 fn refused_somewhere(rng: &mut Rng) -> DayDraft {
-    let refused = rng.between(1, 16);
-    let n = rng.between(refused, 16) as usize;
+    let (refused, n) = somewhere(rng, 1);
     let mut day = day_of(rng, n);
-    let (earlier, others) = day.bodies.split_at_mut(refused as usize - 1);
+    let (earlier, others) = day.bodies.split_at_mut(refused - 1);
     if !earlier.is_empty() && rng.once_in(12) {
         others[0].name = rng.pick(earlier).name;
     } else {
         spoil_for(rng, &mut others[0]);
     }
     day
+}
+
+/// A body from this one on, each as often as any other, and how many bodies there are.
+fn somewhere(rng: &mut Rng, first: u64) -> (usize, usize) {
+    let body = rng.between(first, 16);
+    (body as usize, rng.between(body, 16) as usize)
+}
+
+/// Bodies of which one is long, or nearly: good ones of every number, and each body refused, for its name or otherwise.
+fn long_bodies(rng: &mut Rng) -> DayDraft {
+    match rng.below(17) {
+        0 => {
+            let n = rng.between(1, 16) as usize;
+            nearly_long_day(rng, n)
+        }
+        1 | 2 => long_day(rng, 16),
+        3..=8 => {
+            let n = rng.between(1, 16) as usize;
+            long_day(rng, n)
+        }
+        9..=12 => {
+            let (repeats, n) = somewhere(rng, 2);
+            let mut day = long_day(rng, n);
+            day.bodies[repeats - 1].name = rng.pick(&day.bodies[..repeats - 1]).name;
+            day
+        }
+        _ => {
+            let (refused, n) = somewhere(rng, 1);
+            let mut day = long_day(rng, n);
+            spoil_for(rng, &mut day.bodies[refused - 1]);
+            day
+        }
+    }
 }
 
 /// Spoils names and bodies in one way or a few.
@@ -82,10 +119,10 @@ fn spoil_for(rng: &mut Rng, body: &mut NamedBody) {
         0 => return rename_kind(rng, body),
         1 => |rng, kind, file| *file = any_bytes(rng, kind),
         2 => |rng, kind, file| cut(rng, kind.record_length(), file),
-        3 => |rng, kind, file| *file = too_many(rng, kind),
-        4 if rng.once_in(4) => |rng, _, file| *file = too_long(rng),
+        3 if rng.once_in(2) => |rng, kind, file| *file = too_many(rng, kind),
+        4 if rng.once_in(12) => |rng, _, file| *file = too_long(rng),
         // Most of these have another name.
-        4 => |rng, kind, file| *file = good_draft(rng, kind).file(),
+        4 => |rng, kind, file| *file = another_file(rng, kind),
         5 => |rng, kind, file| change_total(rng, kind, file),
         6 | 7 => |rng, kind, file| copy_key(rng, kind, file),
         _ => spoil,
@@ -93,14 +130,42 @@ fn spoil_for(rng: &mut Rng, body: &mut NamedBody) {
     spoil_file(rng, body, spoil);
 }
 
-/// As many bytes as five digits can say, a few fewer or one more.
+/// More data records than there may be, good ones or not, and sometimes a byte off.
+fn too_many(rng: &mut Rng, kind: Kind) -> Vec<u8> {
+    let n = MOST_RECORDS + rng.pick(&[1, 1, 1, 1, 2, 70]);
+    let mut file = match rng.below(4) {
+        0 => long_draft(rng, kind, n).file(),
+        _ => vec![rng.pick(b"0 R"); (n + 2) * kind.record_length()],
+    };
+    match rng.below(8) {
+        0 => file.push(b' '),
+        1 => drop(file.pop()),
+        _ => {}
+    }
+    file
+}
+
+/// As many bytes as the digits of a form can say, a few fewer or one more.
 fn too_long(rng: &mut Rng) -> Vec<u8> {
-    vec![rng.pick(b" 0H"); rng.pick(&[99_900, 99_960, 99_999, 100_000])]
+    let lengths = [99_900, 99_960, 99_999, 99_999, 100_000, 100_000, 100_050, 100_080, 999_999, 1_000_000];
+    vec![rng.pick(b" 0H"); rng.pick(&lengths)]
+}
+
+/// A good file of few records.
+fn another_file(rng: &mut Rng, kind: Kind) -> Vec<u8> {
+    let n = rng.index(5);
+    let request = request_of(rng, kind.answered(), n);
+    if kind.is_result() {
+        result_of(rng, &request, false).file()
+    } else {
+        request.file()
+    }
 }
 
 /// A good EB11 under its own name, which does not go in.
 fn put_of_a_bank(rng: &mut Rng, body: &mut NamedBody) {
-    let draft = good_draft(rng, Kind::EB11);
+    let n = rng.index(5);
+    let draft = request_of(rng, Kind::EB11, n);
     *body = NamedBody { name: name_of(&draft), file: draft.file() };
 }
 
@@ -150,13 +215,14 @@ fn double_body(rng: &mut Rng, day: &mut DayDraft, at: usize) {
 /// Spoils a whole file.
 pub(super) fn spoil_day_file(rng: &mut Rng, file: &mut Vec<u8>) {
     for _ in 0..rng.pick(&[1, 1, 1, 2]) {
-        match rng.below(10) {
+        match rng.below(11) {
             0..=2 => change_byte(rng, file),
             3 => change_count(rng, file),
             4 => change_entries(rng, file),
             5 | 6 => change_length(rng, file),
             7 => swap_entries(rng, file),
             8 => change_end(rng, file),
+            9 => change_form(rng, file),
             _ if rng.once_in(2) => cut(rng, 1, file),
             _ => shift(rng, file),
         }

@@ -62,9 +62,10 @@ fn change_length(rng: &mut Rng, lengths: &mut [u64]) {
         0 => length.wrapping_add(1),
         1 => length.wrapping_sub(1),
         2 => length.wrapping_add(1 << rng.pick(&[16, 17, 32, 63])),
-        3 => rng.pick(&[0, 99_999, 100_000, 1 << 32, 1 << 63, u64::MAX]),
+        3 => rng.pick(&[0, 99_999, 100_000, 999_999, 1_000_000, 1 << 32, 1 << 63, u64::MAX]),
         4 => rng.next(),
-        _ => rng.below(100_000),
+        _ if rng.once_in(2) => rng.below(100_000),
+        _ => rng.below(1_100_000),
     };
 }
 
@@ -73,7 +74,8 @@ fn move_length(rng: &mut Rng, lengths: &mut [u64]) {
     if lengths.is_empty() {
         return;
     }
-    let moved = rng.pick(&[1, 120, 150, 300, 99_999, 100_000, 1 << 32, 1 << 63, u64::MAX]);
+    let moves = [1, 120, 150, 300, 99_999, 100_000, 999_999, 1_000_000, 1 << 32, 1 << 63, u64::MAX];
+    let moved = rng.pick(&moves);
     let (one, other) = (rng.index(lengths.len()), rng.index(lengths.len()));
     lengths[one] = lengths[one].wrapping_sub(moved);
     lengths[other] = lengths[other].wrapping_add(moved);

@@ -27,8 +27,8 @@ pub fn any_evidence(rng: &mut Rng) -> (u32, Vec<u8>) {
 /// A file of this profile, good or spoiled.
 pub(super) fn evidence_file_of(rng: &mut Rng, profile: Profile) -> Vec<u8> {
     let mut file = match rng.below(4_000) {
-        0..=12 => return too_long(rng, profile),
-        13..=29 => return any_bytes(rng),
+        0..=4 => return too_long(rng, profile),
+        5..=29 => return any_bytes(rng),
         30..=32 if profile == Profile::Ordinary => return evidence_of_blocks(rng, MOST_BLOCKS, 14).file(),
         _ => good_evidence(rng, profile).file(),
     };
@@ -81,7 +81,7 @@ fn too_many_records(rng: &mut Rng, profile: Profile) -> Vec<u8> {
     }
     let mut file = draft.file();
     if rng.once_in(2) {
-        let record = rng.pick(&[1, 2, 429, 430, 431]);
+        let record = rng.pick(&[1, 2, 430, MOST_RECORDS - 1, MOST_RECORDS, MOST_RECORDS + 1]);
         file[record * BLOCK + rng.index(119)] = rng.odd_byte();
     }
     file

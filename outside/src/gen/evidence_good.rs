@@ -11,11 +11,12 @@ use std::collections::HashSet;
 
 /// A good file.
 pub fn good_evidence(rng: &mut Rng, profile: Profile) -> EvidenceDraft {
-    let n = match rng.below(400) {
+    let n = match rng.below(2_000) {
         0 => MOST_RECORDS,
         1 => rng.index(MOST_RECORDS),
-        2..=11 => rng.between(5, 40) as usize,
-        12..=59 => 0,
+        2..=5 => rng.between(41, 450) as usize,
+        6..=55 => rng.between(5, 40) as usize,
+        56..=299 => 0,
         _ => rng.between(1, 4) as usize,
     };
     evidence_of(rng, profile, n)

@@ -26,8 +26,8 @@ pub fn any_enrolments_with_evidence(rng: &mut Rng) -> (u32, Vec<u8>, Vec<u8>) {
         4 | 5 => evidence = evidence_file_of(rng, profile),
         6 => enrolments = file_of(rng, Kind::EB14),
         7 => std::mem::swap(&mut enrolments, &mut evidence),
-        8..=10 => enrolments = too_many(rng, Kind::EB13),
-        11 => evidence = too_long(rng, profile),
+        8 => enrolments = too_many(rng, Kind::EB13),
+        9 if rng.once_in(2) => evidence = too_long(rng, profile),
         _ => {}
     }
     let read_by = if rng.once_in(60) { rng.pick(&Profile::ALL) } else { profile };

@@ -27,7 +27,7 @@ pub fn any_evidence_write(rng: &mut Rng) -> EvidenceWriteInput {
     let profile = rng.pick(&Profile::ALL);
     let mut draft = match rng.below(5_000) {
         0..=4 if profile == Profile::Ordinary => too_many_blocks(rng),
-        5..=19 => too_many_records(rng, profile),
+        5..=11 => too_many_records(rng, profile),
         _ => spoiled(rng, profile),
     };
     if rng.once_in(25) {
@@ -86,7 +86,7 @@ fn too_many_records(rng: &mut Rng, profile: Profile) -> EvidenceDraft {
 /// As many data blocks as allowed, one more, or a few more.
 fn too_many_blocks(rng: &mut Rng) -> EvidenceDraft {
     let blocks = MOST_BLOCKS + rng.pick(&[0, 1, 1, 9]);
-    let n = rng.pick(&[14, 20, MOST_RECORDS]);
+    let n = rng.pick(&[14, 20, 430, MOST_RECORDS]);
     evidence_of_blocks(rng, blocks, n)
 }
 

@@ -60,9 +60,9 @@ pub(super) fn too_many(rng: &mut Rng, kind: Kind) -> Vec<u8> {
 
 /// A file of this kind, good or spoiled.
 pub(super) fn file_of(rng: &mut Rng, kind: Kind) -> Vec<u8> {
-    let mut file = match rng.below(150) {
-        0 => return any_bytes(rng, kind),
-        1 => return too_many(rng, kind),
+    let mut file = match rng.below(600) {
+        0..=3 => return any_bytes(rng, kind),
+        4 => return too_many(rng, kind),
         _ => good_draft(rng, kind).file(),
     };
     if !rng.once_in(4) {

@@ -37,14 +37,15 @@ pub fn request_of(rng: &mut Rng, kind: Kind, n: usize) -> Draft {
     draft
 }
 
-/// How many data records: mostly few, sometimes many.
+/// How many data records: mostly few, sometimes many, seldom as many as there may be.
 fn size(rng: &mut Rng) -> usize {
-    (match rng.below(240) {
+    (match rng.below(1_200) {
         0 => MOST_RECORDS as u64,
         1 => rng.between(0, MOST_RECORDS as u64),
-        2..=9 => rng.between(7, 40),
-        10..=39 => 0,
-        40..=89 => 1,
+        2..=5 => rng.between(41, 450),
+        6..=45 => rng.between(7, 40),
+        46..=195 => 0,
+        196..=445 => 1,
         _ => rng.between(2, 6),
     }) as usize
 }

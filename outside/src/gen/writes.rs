@@ -41,20 +41,20 @@ pub fn any_write(rng: &mut Rng) -> WriteInput {
         }
     }
     let mut bodies = draft.bodies.concat();
-    match rng.below(150) {
+    match rng.below(600) {
         0 | 1 => {
             let records = MOST_RECORDS + rng.pick(&[1, 1, 1, 2, 100]);
             bodies = vec![rng.pick(b"0 R"); records * kind.body_length()];
         }
-        2 => bodies.push(rng.odd_byte()),
-        3 => {
+        2..=5 => bodies.push(rng.odd_byte()),
+        6..=9 => {
             bodies.pop();
         }
-        4 => {
+        10..=13 => {
             let length = rng.index(500);
             bodies = rng.bytes(length);
         }
-        5 => {
+        14..=17 => {
             let records = rng.index(4);
             bodies = rng.bytes(records * kind.body_length());
         }

@@ -2,6 +2,7 @@
 
 use super::cases::{self, answer as answer_of, bytes, change, file_of, number, parted, sides, UNWRITTEN};
 use outside::arrival::ENDED;
+use outside::gen::longest_file;
 
 /// One line of the list.
 pub struct Case {
@@ -50,7 +51,7 @@ pub fn cases() -> impl Iterator<Item = Case> {
 /// File, room and state at first.
 fn input_of(input: &str) -> (Vec<u8>, Vec<u8>, [u64; 2]) {
     let (words, changes) = parted(input);
-    let (mut room, mut state) = (vec![UNWRITTEN; 64_800], [0, 0]);
+    let (mut room, mut state) = (vec![UNWRITTEN; longest_file()], [0, 0]);
     let mut file = match words[..] {
         ["-"] => Vec::new(),
         [word] => match word.split_once('/') {

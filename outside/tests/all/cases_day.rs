@@ -61,9 +61,20 @@ fn file(input: &str) -> Vec<u8> {
         return bytes(all);
     }
     let (day, changes) = day_of(input);
-    let mut file = day.file();
+    let (forms, changes): (Vec<&str>, Vec<&str>) =
+        changes.into_iter().partition(|word| sides(word).0 == "form");
+    let mut file = match forms.first() {
+        Some(word) => in_form(&day, sides(word).1),
+        None => day.file(),
+    };
     changes.iter().for_each(|word| change(&mut file, word));
     file
+}
+
+/// The file with this form byte and so many digits of each length.
+fn in_form(day: &DayDraft, word: &str) -> Vec<u8> {
+    let (form, digits) = word.split_once('/').expect("a form and digits");
+    day.file_in(bytes(form)[0], number(digits) as usize)
 }
 
 fn written(input: &str) -> Asked {

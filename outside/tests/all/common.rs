@@ -146,6 +146,15 @@ pub fn keep(name: &str, bytes: &[u8]) -> PathBuf {
     path
 }
 
+/// Numbers of data records to go through, since every one would take too long: all up to 40, some about 100, 256, 430 (the
+/// limit that there was), 512, 665 and 832 (from which a file has more than 99,999 bytes), 1,000 and 1,024, and about the
+/// limit, up to two too many.
+pub fn numbers_of_records() -> impl Iterator<Item = usize> {
+    let below = [0..=40, 99..=101, 255..=257, 429..=432, 511..=513, 664..=667, 831..=834, 999..=1_001];
+    let about = [1_023..=1_025, MOST_RECORDS - 2..=MOST_RECORDS + 2];
+    below.into_iter().chain(about).flatten()
+}
+
 /// A good file of n data records.
 pub fn good_file(rng: &mut Rng, kind: Kind, n: usize) -> Vec<u8> {
     loop {

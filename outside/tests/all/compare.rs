@@ -2,7 +2,10 @@
 //!
 //! `OUTSIDE_SEED` and `OUTSIDE_COUNT` choose the generated files.
 
-use super::common::{check_coverage, good_file, keep, other_texts, proved_shown, put, shown, small_told};
+use super::common::{
+    check_coverage, good_file, keep, numbers_of_records, other_texts, proved_shown, put, shown, small_told,
+};
+use super::compare_board_payers::{of_one_remainder, of_one_sum, of_the_same_bytes, of_the_same_ends};
 use outside::bridge::{ask, Call, Queue, Said};
 use outside::coverage::{Counter, Operation};
 use outside::gen::{self, Rng};
@@ -224,17 +227,54 @@ fn every_pattern_of_keys() {
 
 /// One of eight keys.
 fn put_key(family: Family, record: &mut [u8], choice: usize) {
-    let (payer, other) = (format!("{:<20}", choice % 4), choice / 4);
+    put_payer(family, record, format!("{:<20}", choice % 4).as_bytes(), choice / 4);
+}
+
+/// A payer, and one of two texts in the key's other item.
+fn put_payer(family: Family, record: &mut [u8], payer: &[u8], other: usize) {
     match family {
         Family::Enrolment => {
-            put(record, ENROLMENT_PAYER, payer.as_bytes());
+            put(record, ENROLMENT_PAYER, payer);
             put(record, ENROLMENT_KIND, &[b"17"[other]]);
             // These kinds want it filled.
             put(record, ENROLMENT_BIRTH, b"8");
         }
         Family::Debit => {
-            put(record, DEBIT_PAYER, payer.as_bytes());
+            put(record, DEBIT_PAYER, payer);
             put(record, DEBIT_USE, [b"     ", b"    2"][other]);
+        }
+    }
+}
+
+/// As many records as there may be, or as there are payers that simple sums of their bytes cannot tell from each other: no
+/// key is taken for another, and one that repeats is found.
+#[test]
+fn keys_that_collide() {
+    let (mut both, mut rng) = (both(), Rng::new(settings::seed()));
+    let mut lists = vec![of_one_sum(), of_the_same_bytes(), of_the_same_ends()];
+    lists.extend(
+        [251, 1_024, 2_039, 4_051, 4_093, 4_096, 4_099].map(|divisor| of_one_remainder(divisor, 200)),
+    );
+    // Two keys of each payer.
+    let lists = lists.into_iter().map(|payers| payers.into_iter().flat_map(|one| [(one, 0), (one, 1)]));
+    for keys in lists.map(|keys| keys.take(MOST_RECORDS).collect::<Vec<_>>()) {
+        for kind in Kind::ALL {
+            let length = kind.record_length();
+            let mut file = good_file(&mut rng, kind, keys.len());
+            for (record, (payer, other)) in file.chunks_mut(length).skip(1).zip(&keys) {
+                put_payer(kind.family(), record, payer, *other);
+            }
+            mend(kind, &mut file);
+            assert_eq!(compare(&mut both, kind.number(), &file), Answer::accepted());
+            for _ in 0..5 {
+                let later = rng.between(2, keys.len() as u64) as usize;
+                let earlier = rng.between(1, later as u64 - 1) as usize;
+                let mut twice = file.clone();
+                twice.copy_within(earlier * length..(earlier + 1) * length, later * length);
+                mend(kind, &mut twice);
+                let expected = Answer::placed(7, later, kind.key_item());
+                assert_eq!(compare(&mut both, kind.number(), &twice), expected);
+            }
         }
     }
 }
@@ -243,7 +283,7 @@ fn put_key(family: Family, record: &mut [u8], choice: usize) {
 fn every_number_of_records() {
     let (mut both, mut rng) = (both(), Rng::new(settings::seed()));
     for kind in Kind::ALL {
-        for n in 0..=MOST_RECORDS + 2 {
+        for n in numbers_of_records() {
             let mut file = good_file(&mut rng, kind, n);
             let number = if n > MOST_RECORDS { 3 } else { 0 };
             assert_eq!(compare(&mut both, kind.number(), &file), Answer::without_place(number));
@@ -254,18 +294,44 @@ fn every_number_of_records() {
     }
 }
 
-/// The last data record is also an earlier one.
+/// The last data record is also an earlier one: any, the first, and the one before it.
 #[test]
 fn every_number_of_records_with_a_repeated_key() {
     let (mut both, mut rng) = (both(), Rng::new(settings::seed()));
     for kind in Kind::ALL {
         let length = kind.record_length();
-        for n in 2..=MOST_RECORDS {
-            let mut file = good_file(&mut rng, kind, n);
-            let earlier = rng.between(1, n as u64 - 1) as usize;
-            file.copy_within(earlier * length..(earlier + 1) * length, n * length);
+        for n in numbers_of_records().filter(|n| (2..=MOST_RECORDS).contains(n)) {
+            let good = good_file(&mut rng, kind, n);
+            for earlier in [rng.between(1, n as u64 - 1) as usize, 1, n - 1] {
+                let mut file = good.clone();
+                file.copy_within(earlier * length..(earlier + 1) * length, n * length);
+                mend(kind, &mut file);
+                assert_eq!(compare(&mut both, kind.number(), &file), Answer::placed(7, n, kind.key_item()));
+            }
+        }
+    }
+}
+
+/// Both keys at any two places of the longest file, and so two more: the smallest number that repeats one is told.
+#[test]
+fn repeated_keys_in_the_longest_file() {
+    let (mut both, mut rng) = (both(), Rng::new(settings::seed()));
+    for kind in Kind::ALL {
+        let length = kind.record_length();
+        let good = good_file(&mut rng, kind, MOST_RECORDS);
+        for _ in 0..40 {
+            let mut file = good.clone();
+            let mut repeated = Vec::new();
+            // Only the second half is written to, so no copy is copied from.
+            for _ in 0..2 {
+                let later = rng.between(MOST_RECORDS as u64 / 2 + 1, MOST_RECORDS as u64) as usize;
+                let earlier = rng.between(1, MOST_RECORDS as u64 / 2) as usize;
+                file.copy_within(earlier * length..(earlier + 1) * length, later * length);
+                repeated.push(later);
+            }
             mend(kind, &mut file);
-            assert_eq!(compare(&mut both, kind.number(), &file), Answer::placed(7, n, kind.key_item()));
+            let first = *repeated.iter().min().expect("two");
+            assert_eq!(compare(&mut both, kind.number(), &file), Answer::placed(7, first, kind.key_item()));
         }
     }
 }

@@ -2,7 +2,7 @@
 //!
 //! `OUTSIDE_SEED` and `OUTSIDE_COUNT` choose the generated files.
 
-use super::common::{check_coverage, good_file, keep, proved_shown_with_room, shown};
+use super::common::{check_coverage, good_file, keep, numbers_of_records, proved_shown_with_room, shown};
 use outside::bridge::{ask, Call, Queue, Said};
 use outside::coverage::{Counter, Operation};
 use outside::gen::{self, Rng};
@@ -95,12 +95,12 @@ fn mostly_request(rng: &mut Rng) -> (u32, Vec<u8>) {
 
 const REQUESTS: [Kind; 3] = [Kind::EB13, Kind::EB21, Kind::EC21];
 
-/// Every number of data records, and lengths of memory about the one that is needed: all of them where records are few.
+/// Numbers of data records, and lengths of memory about the one that is needed: all of them where records are few.
 #[test]
 fn every_length_of_the_memory() {
     let (mut both, mut rng) = (both(), Rng::new(settings::seed()));
     for kind in REQUESTS {
-        for n in 0..=MOST_RECORDS + 1 {
+        for n in numbers_of_records() {
             let file = good_file(&mut rng, kind, n);
             let exact = n * kind.body_length();
             let (below, above) = match n {
@@ -165,8 +165,9 @@ fn every_kind_of_file() {
 fn a_file_that_is_taken_apart_is_written_again() {
     let mut rng = Rng::new(settings::seed());
     for kind in REQUESTS {
+        let numbers = numbers_of_records().filter(|n| *n <= MOST_RECORDS).collect::<Vec<_>>();
         for round in 0..2_000 {
-            let n = if round <= MOST_RECORDS { round } else { rng.index(30) };
+            let n = numbers.get(round).copied().unwrap_or_else(|| rng.index(30));
             let file = good_file(&mut rng, kind, n);
             let mut bodies = unwritten(n * kind.body_length());
             let told = proved::apart(kind.number(), &file, &mut bodies);

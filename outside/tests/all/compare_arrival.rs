@@ -3,7 +3,7 @@
 //!
 //! `OUTSIDE_SEED` and `OUTSIDE_COUNT` choose the generated arrivals.
 
-use super::common::{arrival_shown, check_coverage, good_file, keep};
+use super::common::{arrival_shown, check_coverage, good_file, keep, numbers_of_records};
 use super::compare_day::refused_files;
 use outside::arrival::{ENDED, FOLD, FOLDED_FROM};
 use outside::bridge::{ask, Breach, Call, Queue, Said};
@@ -438,17 +438,23 @@ fn every_unknown_kind() {
     }
 }
 
-/// Every number of data records, cut at random, in a room that is just long enough.
+/// Numbers of data records, cut at random, in a room that is just long enough, and in one that is as long as the longest
+/// file, where nothing is told 8.
 #[test]
 fn every_number_of_records() {
     let (mut both, mut rng) = (both(), Rng::new(settings::seed()));
     for kind in Kind::ALL {
-        for n in 0..=MOST_RECORDS + 2 {
+        for n in numbers_of_records() {
             let file = good_file(&mut rng, kind, n);
             let lengths = gen::any_cutting(&mut rng, file.len());
             let number = if n > MOST_RECORDS { 3 } else { 0 };
             let told = compare_whole(&mut both, kind.number(), &file, &lengths, &unwritten(file.len()));
             assert_eq!(told, Answer::without_place(number));
+            if n > 400 {
+                let room = unwritten(gen::longest_file());
+                let told = compare_whole(&mut both, kind.number(), &file, &lengths, &room);
+                assert_eq!(told, Answer::without_place(number));
+            }
             if n > 0 {
                 let told =
                     compare_whole(&mut both, kind.number(), &file, &lengths, &unwritten(file.len() - 1));
@@ -460,13 +466,16 @@ fn every_number_of_records() {
 
 // --------------------------------------------------------- over the limit
 
-/// What the length alone says: whole records, two at least, 432 at most.
+/// The most records that a file may have, header and trailer counted.
+const MOST: usize = MOST_RECORDS + 2;
+
+/// What the length alone says: whole records, two at least, and no more than that.
 fn told_by_length(kind: u32, length: usize) -> Option<Answer> {
     let Some(kind) = Kind::known(kind) else { return Some(Answer::without_place(1)) };
     let size = kind.record_length();
     match (length % size, length / size) {
-        (0, 2..=432) => None,
-        (0, 433..) => Some(Answer::without_place(3)),
+        (0, 2..=MOST) => None,
+        (0, 2..) => Some(Answer::without_place(3)),
         _ => Some(Answer::without_place(2)),
     }
 }
@@ -482,39 +491,60 @@ fn spaces_arrive(both: &mut Both, kind: u32, length: usize, each: usize, room: u
     assert_eq!(told, told_by_length(kind, length).unwrap_or(kept), "{length} bytes, room for {room}");
 }
 
-const ROOMS: [usize; 6] = [0, 300, 51_840, 64_799, 64_800, 100_000];
+/// The longest files of both widths.
+const ENROLMENTS: usize = MOST * 120;
+const DEBITS: usize = MOST * 150;
+/// Where lengths are folded.
+const FOLDED: usize = FOLDED_FROM as usize;
+
+const ROOMS: [usize; 6] = [0, 300, ENROLMENTS, DEBITS - 1, DEBITS, DEBITS + 100_000];
 
 /// About the longest files of both widths, about where lengths are folded, and about some multiples beyond.
 #[test]
 fn lengths_about_the_limits() {
     let mut both = both();
-    let limits = [51_840, 51_960, 64_800, 64_920, 64_950, 65_400, 66_000, 66_600, 130_200, 130_800];
-    let lengths = limits.into_iter().flat_map(|limit| limit - 2..=limit + 2);
+    assert_eq!((ENROLMENTS, DEBITS, FOLDED), (240_240, 300_300, 300_600));
+    // The limit that there was, too.
+    let limits =
+        [51_960, 64_800, 64_950, 65_400, ENROLMENTS, ENROLMENTS + 120, DEBITS, DEBITS + 60, DEBITS + 150];
+    let folds = [FOLDED, FOLDED + 600, FOLDED + 1_200, 2 * FOLDED - 600, 2 * FOLDED];
+    let lengths = limits.into_iter().chain(folds).flat_map(|limit| limit - 2..=limit + 2);
+    let about = [ENROLMENTS - 600..=ENROLMENTS + 600, DEBITS - 600..=FOLDED + 1_200];
     let mut at = 0;
-    for length in lengths.chain((51_840..=66_600).step_by(30)) {
+    for length in lengths.chain(about.into_iter().flat_map(|about| about.step_by(30))) {
         for kind in [Kind::EB13, Kind::EB21] {
             at += 1;
-            let each = [4_096, 65_400, 997, 7_001, 600][at % 5];
+            let each = [4_096, FOLDED, 997, 7_001, 600][at % 5];
             spaces_arrive(&mut both, kind.number(), length, each, ROOMS[at % 6]);
         }
     }
     for kind in all_numbers() {
-        for length in [51_840, 51_960, 64_800, 64_801, 64_950, 65_399, 65_400, 65_401] {
+        for length in [
+            64_950,
+            ENROLMENTS,
+            ENROLMENTS + 120,
+            DEBITS,
+            DEBITS + 1,
+            DEBITS + 150,
+            FOLDED - 1,
+            FOLDED,
+            FOLDED + 1,
+        ] {
             at += 1;
             spaces_arrive(&mut both, kind, length, 4_096, ROOMS[at % 6]);
         }
     }
 }
 
-/// Up to 200,000 bytes in odd parts: only what is left over of whole records matters, not how often it was folded.
+/// Up to 700,000 bytes in odd parts: only what is left over of whole records matters, not how often it was folded.
 #[test]
 fn many_bytes_over_the_limit() {
     let (mut both, mut rng) = (both(), Rng::new(settings::seed()));
     for kind in all_numbers() {
-        for room in [0, 300, 64_800, 100_000] {
+        for room in [0, 300, DEBITS, DEBITS + 100_000] {
             for _ in 0..3 {
-                let length = rng.between(65_401, 200_000) as usize;
-                let each = rng.pick(&[601, 1_009, 4_095, 30_011, 65_399, 65_401, 131_071]);
+                let length = rng.between(FOLDED_FROM + 1, 700_000) as usize;
+                let each = rng.pick(&[601, 1_009, 4_095, 30_011, FOLDED - 1, FOLDED + 1, 524_287]);
                 spaces_arrive(&mut both, kind, length, each, room);
                 spaces_arrive(&mut both, kind, length - length % 600, each, room);
             }
@@ -528,7 +558,7 @@ fn records_too_many_call_by_call() {
     let (mut both, mut rng) = (both(), Rng::new(settings::seed()));
     for kind in Kind::ALL {
         let file = good_file(&mut rng, kind, MOST_RECORDS + 1);
-        for room in [0, 300, file.len() - 1, file.len(), 100_000] {
+        for room in [0, 300, file.len() - 1, file.len(), DEBITS + 100_000] {
             let lengths = gen::any_cutting(&mut rng, file.len());
             let mut arriving = Arriving::new(&mut both, &unwritten(room));
             arriving.parts(&file, &lengths);
@@ -538,12 +568,12 @@ fn records_too_many_call_by_call() {
     }
 }
 
-/// 5 MB: the second number of the state stays below 66,000, and the answer is still that of the joined bytes.
+/// 5 MB: the second number of the state stays below 301,200, and the answer is still that of the joined bytes.
 #[test]
 fn very_many_bytes() {
     let mut both = both();
     let part: Vec<u8> = (0..50_021).map(|at| (at % 251) as u8).collect();
-    for (kind, room) in [(Kind::EB13, 1_000), (Kind::EB21, 0), (Kind::EC22, 64_800)] {
+    for (kind, room) in [(Kind::EB13, 1_000), (Kind::EB21, 0), (Kind::EC22, DEBITS)] {
         // 5,002,100 bytes are no whole records; with 100 more they are 600 times 8,337.
         for (last, number) in [(0, 2), (100, 3)] {
             let mut arriving = Arriving::new(&mut both, &unwritten(room));
@@ -551,7 +581,7 @@ fn very_many_bytes() {
                 assert_eq!(arriving.part(&part), 10);
                 let [kept, past] = arriving.ours.state();
                 assert_eq!(kept, (50_021 * sent).min(room) as u64);
-                assert!(past < FOLDED_FROM + FOLD);
+                assert!(past < 301_200);
             }
             assert_eq!(arriving.part(&part[..last]), 10);
             assert_eq!(arriving.end(kind.number()), Answer::without_place(number));
@@ -672,7 +702,7 @@ fn counts_that_are_about_to_be_folded() {
     let edges = gen::past_edges().into_iter().filter(|&past| past != ENDED);
     let near = FOLDED_FROM - 3..=FOLDED_FROM + 3;
     for first in edges.chain(near).chain(FOLDED_FROM + FOLD - 3..=FOLDED_FROM + FOLD + 3) {
-        for part in [0, 1, 2, 599, 600, 601, 65_399, 65_400, 70_001] {
+        for part in [0, 1, 2, 599, 600, 601, FOLDED - 1, FOLDED, FOLDED + 4_601] {
             let (mut past, mut sum) = (first, u128::from(first));
             for _ in 0..4 {
                 let (_, [kept, then]) =
@@ -699,7 +729,7 @@ fn sums_past_the_largest_number() {
         (u64::MAX, 1),
         (u64::MAX, u64::MAX - 1),
         (u64::MAX - 1, 2),
-        (u64::MAX - 65_399, 65_400),
+        (u64::MAX - FOLDED_FROM + 1, FOLDED_FROM),
         (1 << 63, 1 << 63),
         (u64::MAX, 0),
         (301, 0),

@@ -3,7 +3,7 @@
 //!
 //! `OUTSIDE_SEED` and `OUTSIDE_COUNT` choose the generated boards.
 
-use super::common::{check_coverage, good_file, keep, put, shown};
+use super::common::{check_coverage, good_file, keep, numbers_of_records, put, shown};
 use outside::board::FIRST_DATES;
 use outside::bridge::{ask, Breach, Call, Queue, Said};
 use outside::coverage::{Counter, Operation};
@@ -12,7 +12,7 @@ use outside::layout::{Kind, PairKind, MOST_RECORDS};
 use outside::proved::received;
 use outside::shrink::{shrink, shrink_list};
 use outside::{board_post, pair, settings, Answer, Dates, Member};
-use std::collections::BTreeMap;
+use std::collections::{BTreeMap, HashMap};
 
 // --------------------------------------------------------------- one posting
 
@@ -171,22 +171,26 @@ fn dates_after(kinds: PairKind, before: &Dates, date: &[u8]) -> Dates {
 
 /// What the rules say of debits on a board of which no two members have one payer, and whose date is right.
 fn rules_say(debits: &[Debit], board: &[Member]) -> (Answer, Vec<Member>) {
-    let sum = |of: &[u8; 20]| -> u64 {
-        debits.iter().filter(|(payer, ..)| payer == of).map(|(_, asked, not_taken)| asked - not_taken).sum()
-    };
+    let mut taken: HashMap<[u8; 20], u64> = HashMap::new();
+    for (payer, asked, not_taken) in debits {
+        *taken.entry(*payer).or_default() += asked - not_taken;
+    }
+    let owed: HashMap<[u8; 20], u64> = board.iter().map(|member| (member.payer, member.owed)).collect();
     for (before, (payer, ..)) in debits.iter().enumerate() {
-        match board.iter().find(|member| member.payer == *payer) {
+        match owed.get(payer) {
             None => return (Answer::placed(41, before + 1, 11), board.to_vec()),
-            Some(member) if sum(payer) > member.owed => {
+            Some(owed) if taken[payer] > *owed => {
                 return (Answer::placed(42, before + 1, 11), board.to_vec())
             }
             Some(_) => {}
         }
     }
-    let after = |member: &Member| {
-        let owed = member.owed - sum(&member.payer);
-        let named = debits.iter().any(|(payer, ..)| *payer == member.payer);
-        Member { owed, state: if named { u64::from(owed == 0) } else { member.state }, ..*member }
+    let after = |member: &Member| match taken.get(&member.payer) {
+        Some(taken) => {
+            let owed = member.owed - taken;
+            Member { owed, state: u64::from(owed == 0), ..*member }
+        }
+        None => *member,
     };
     (Answer::accepted(), board.iter().map(after).collect())
 }
@@ -814,7 +818,7 @@ fn every_byte_of_both_files() {
 #[test]
 fn every_number_of_requests() {
     let (mut both, mut rng) = (both(), Rng::new(settings::seed()));
-    for n in 0..=MOST_RECORDS + 1 {
+    for n in numbers_of_records() {
         let kinds = rng.pick(&DEBITS);
         let request = gen::request_of(&mut rng, kinds.request(), n);
         let result = gen::result_of(&mut rng, &request, true).file();

@@ -272,12 +272,11 @@ fn with_owed(mut board: Vec<Member>, owed: u64) -> Vec<Member> {
 #[test]
 fn boards_of_every_size() {
     let (mut both, mut rng) = (both(), Rng::new(settings::seed()));
-    for (kinds, n) in
-        DEBITS.into_iter().flat_map(|kinds| [0, 1, 2, 429, 430, 431, 2_000, MANY].map(|n| (kinds, n)))
-    {
-        let mut board = with_owed(members(n), 1_000_000);
+    let sizes = [0, 1, 2, 430, 431, 1_024, MOST_RECORDS - 1, MOST_RECORDS, MOST_RECORDS + 1, MANY];
+    for (kinds, n) in DEBITS.into_iter().flat_map(|kinds| sizes.map(|n| (kinds, n))) {
+        let mut board = with_owed(members(n), 10_000_000);
         rng.shuffle(&mut board);
-        for named in [1, 2, 100, MOST_RECORDS].into_iter().filter(|named| *named <= n) {
+        for named in [1, 2, 100, 430, MOST_RECORDS].into_iter().filter(|named| *named <= n) {
             let debits: Vec<Debit> = (0..MOST_RECORDS)
                 .map(|at| (board[(at % named) * (n / named)].payer, 2_000, [0, 0, 1_000, 2_000][at % 4]))
                 .collect();
@@ -286,6 +285,28 @@ fn boards_of_every_size() {
         assert!(post(&mut both, &mut rng, kinds, &[], &board).is_accepted());
         let stranger = [(payer("NOBODY"), 2_000, 0)];
         assert_eq!(post(&mut both, &mut rng, kinds, &stranger, &board), Answer::placed(41, 1, 11));
+    }
+}
+
+/// As many requests as there may be, each of a payer of its own, who owe just what was taken: any of them is missing, or
+/// owes a won too little.
+#[test]
+fn one_of_the_most_requests() {
+    let (mut both, mut rng) = (both(), Rng::new(settings::seed()));
+    for (kinds, n) in DEBITS.into_iter().flat_map(|kinds| [MOST_RECORDS, MANY].map(|n| (kinds, n))) {
+        let mut board = with_owed(members(n), 1_000);
+        rng.shuffle(&mut board);
+        let debits: Vec<Debit> = board[..MOST_RECORDS].iter().map(|one| (one.payer, 1_000, 0)).collect();
+        rng.shuffle(&mut board);
+        assert!(post(&mut both, &mut rng, kinds, &debits, &board).is_accepted());
+        for at in [0, 1, 429, 430, 1_023, 1_024, MOST_RECORDS - 1] {
+            let place = board.iter().position(|one| one.payer == debits[at].0).expect("a member");
+            let mut other = board.clone();
+            other[place].owed = 999;
+            assert_eq!(post(&mut both, &mut rng, kinds, &debits, &other), Answer::placed(42, at + 1, 11));
+            other[place].payer = payer("SOMEBODY ELSE");
+            assert_eq!(post(&mut both, &mut rng, kinds, &debits, &other), Answer::placed(41, at + 1, 11));
+        }
     }
 }
 
@@ -323,7 +344,7 @@ fn polynomial(text: &[u8]) -> u32 {
 }
 
 /// "AO" and "B0" have one sum by that, so all payers made of ten of them have.
-fn of_one_sum() -> Vec<[u8; 20]> {
+pub(super) fn of_one_sum() -> Vec<[u8; 20]> {
     let text = |choice: usize| {
         let parts = (0..10).map(|at| if choice >> at & 1 == 0 { b"AO" } else { b"B0" });
         parts.flatten().copied().collect::<Vec<u8>>().try_into().expect("20 bytes")
@@ -334,13 +355,13 @@ fn of_one_sum() -> Vec<[u8; 20]> {
 }
 
 /// Numbered payers whose sums leave the same remainder.
-fn of_one_remainder(divisor: u32, count: usize) -> Vec<[u8; 20]> {
+pub(super) fn of_one_remainder(divisor: u32, count: usize) -> Vec<[u8; 20]> {
     let numbered = (0..).map(|number: u64| payer(&format!("{number:X}")));
     numbered.filter(|payer| polynomial(payer).is_multiple_of(divisor)).take(count).collect()
 }
 
 /// The same bytes in another order, so that their sum and what they give together by exclusive or are the same.
-fn of_the_same_bytes() -> Vec<[u8; 20]> {
+pub(super) fn of_the_same_bytes() -> Vec<[u8; 20]> {
     let text = *b"ABCDEFGHIJKLMNOPQRST";
     let swapped = |one: usize, other: usize| {
         let mut payer = text;
@@ -359,7 +380,7 @@ fn of_the_same_bytes() -> Vec<[u8; 20]> {
 }
 
 /// Payers that share all but two neighbouring bytes, at every place.
-fn of_the_same_ends() -> Vec<[u8; 20]> {
+pub(super) fn of_the_same_ends() -> Vec<[u8; 20]> {
     let at_place = |place: usize| {
         (b'0'..=b'9').flat_map(move |one| {
             (b'A'..=b'J').map(move |other| {

@@ -6,7 +6,9 @@ use super::changes::{
     body, check_eb12, eb11, half, single, told as told_of, Asked, A013, A016, A017, ACCOUNT, BRANCH, CODES,
     KIND, OFFICE, PAYER, RESULT, YES,
 };
-use super::common::{check_coverage, good_file, keep, proved_shown_with_room, put, shown};
+use super::common::{
+    check_coverage, good_file, keep, numbers_of_records, proved_shown_with_room, put, shown,
+};
 use outside::bridge::{ask, Call, Queue, Said};
 use outside::coverage::{Counter, Operation};
 use outside::gen::{self, Eb12Input, Rng};
@@ -138,8 +140,9 @@ fn generated_inputs() {
 #[test]
 fn what_is_written_has_its_layout() {
     let mut rng = Rng::new(settings::seed());
+    let numbers: Vec<usize> = numbers_of_records().filter(|n| *n <= MOST_RECORDS).collect();
     for round in 0..3_000 {
-        let n = if round <= MOST_RECORDS { round } else { rng.index(12) };
+        let n = numbers.get(round).copied().unwrap_or_else(|| rng.index(12));
         let changes = rng.index(n / 2 + 1);
         let eb11 = gen::changes_of(&mut rng, n, changes).file();
         let answers: Vec<u64> = (0..n).map(|_| gen::any_no(&mut rng)).collect();
@@ -285,12 +288,12 @@ fn every_list_of_answers() {
     }
 }
 
-/// The same among many: only one answer is unknown, or there are some too many or too few.
+/// The same among many: only one answer is unknown, wherever it is, or there are some too many or too few.
 #[test]
 fn one_answer_of_many() {
     let (mut both, mut rng) = (both(), Rng::new(settings::seed()));
     let eb11 = gen::changes_of(&mut rng, MOST_RECORDS, 0).file();
-    for at in 0..MOST_RECORDS {
+    for at in (0..MOST_RECORDS).step_by(19).chain([1, 429, 430, MOST_RECORDS - 2, MOST_RECORDS - 1]) {
         let mut answers: Vec<u64> = (0..MOST_RECORDS).map(|_| gen::any_no(&mut rng)).collect();
         answers[at] = gen::unknown_answer(&mut rng);
         let written = compare(&mut both, with_room(eb11.clone(), answers.clone(), 0));
@@ -298,7 +301,9 @@ fn one_answer_of_many() {
         answers[at] = YES;
         assert!(compare(&mut both, with_room(eb11.clone(), answers, 0)).told.is_accepted());
     }
-    for length in (0..=2 * MOST_RECORDS).filter(|length| *length != MOST_RECORDS) {
+    let lengths = [0, 1, 2, 430, 431, MOST_RECORDS / 2, 2 * MOST_RECORDS, 65_536 + MOST_RECORDS];
+    let about = MOST_RECORDS - 40..=MOST_RECORDS + 40;
+    for length in about.filter(|length| *length != MOST_RECORDS).chain(lengths) {
         let written = compare(&mut both, with_room(eb11.clone(), vec![YES; length], 0));
         assert_eq!(written.told, Answer::without_place(51));
     }
@@ -335,7 +340,8 @@ fn halves_at_every_two_places() {
 #[test]
 fn halves_far_apart() {
     let (mut both, mut rng) = (both(), Rng::new(settings::seed()));
-    let places = [1, 2, 63, 64, 65, 127, 128, 129, 214, 215, 216, 255, 256, 257, 428, 429, 430];
+    let places =
+        [1, 2, 64, 128, 256, 429, 430, 431, 999, 1_000, 1_001, 1_024, MOST_RECORDS - 1, MOST_RECORDS];
     let good = gen::changes_of(&mut rng, MOST_RECORDS, 0);
     for (one, other) in places.into_iter().flat_map(|one| places.map(|other| (one, other))) {
         if one == other {
@@ -391,11 +397,11 @@ fn every_byte_that_must_agree_or_differ() {
     }
 }
 
-/// Every number of records and of changes among them, all applied, all refused, or some of each.
+/// Numbers of records and of changes among them, up to half as many, all applied, all refused, or some of each.
 #[test]
 fn every_number_of_records() {
     let (mut both, mut rng) = (both(), Rng::new(settings::seed()));
-    for n in 0..=MOST_RECORDS + 2 {
+    for n in numbers_of_records() {
         for changes in [0, n / 2, rng.index(n / 2 + 1)] {
             let eb11 = gen::changes_of(&mut rng, n, changes).file();
             let number = if n > MOST_RECORDS { 3 } else { 0 };
@@ -422,7 +428,7 @@ fn is_refused(record: &[u8]) -> bool {
 #[test]
 fn every_length_of_the_room() {
     let (mut both, mut rng) = (both(), Rng::new(settings::seed()));
-    for n in (0..=4).chain([5, 40, 429, MOST_RECORDS]) {
+    for n in (0..=4).chain([5, 40, 431, MOST_RECORDS - 1, MOST_RECORDS]) {
         let eb11 = gen::changes_of(&mut rng, n, 0).file();
         for refused in if n <= 4 { (0..=n).collect() } else { vec![0, 1, n - 1, n] } {
             let mut answers = vec![YES; n];

@@ -2,7 +2,9 @@
 //!
 //! `OUTSIDE_SEED` and `OUTSIDE_COUNT` choose the generated files.
 
-use super::common::{check_coverage, evidence_of_lengths, keep, other_texts, proved_shown, put, shown};
+use super::common::{
+    check_coverage, evidence_of_lengths, keep, numbers_of_records, other_texts, proved_shown, put, shown,
+};
 use outside::bridge::{ask, Call, Queue, Said};
 use outside::coverage::{Counter, Operation};
 use outside::evidence::layout::{Profile, BLOCK, FRONT, FRONT_LENGTH, HEADER, MOST_BLOCKS, TRAILER};
@@ -94,8 +96,16 @@ fn report(&Input { profile, ref file, asked }: &Input) -> ! {
 // ------------------------------------------------------------ generated files
 
 /// Records that no file has, and those that a narrower number would take for small ones.
-pub(super) const LARGE: [u64; 8] =
-    [430, 431, 1 << 32, (1 << 32) + 1, (1 << 63) - 1, 1 << 63, u64::MAX - 1, u64::MAX];
+pub(super) const LARGE: [u64; 8] = [
+    MOST_RECORDS as u64,
+    MOST_RECORDS as u64 + 1,
+    1 << 32,
+    (1 << 32) + 1,
+    (1 << 63) - 1,
+    1 << 63,
+    u64::MAX - 1,
+    u64::MAX,
+];
 
 #[test]
 fn generated_files_are_read_alike() {
@@ -248,7 +258,7 @@ fn every_pattern_of_keys() {
 fn every_number_of_records() {
     let (mut both, mut rng) = (both(), Rng::new(settings::seed()));
     for (number, profile) in profiles() {
-        for n in 0..=MOST_RECORDS + 2 {
+        for n in numbers_of_records() {
             let draft = match profile {
                 Profile::Ordinary => evidence_of_lengths(&mut rng, &vec![1 + n % 905; n]),
                 Profile::PartlyExempt => gen::evidence_of(&mut rng, profile, n),
@@ -256,7 +266,7 @@ fn every_number_of_records() {
             let mut file = draft.file();
             let expected = Answer::without_place(if n > MOST_RECORDS { 3 } else { 0 });
             assert_eq!(compare_reading(&mut both, number, &file), expected);
-            if n % 20 == 0 || n >= MOST_RECORDS {
+            if n % 20 == 0 || n > 400 {
                 let last = Answer::broken(n + 1, 1, b"0081");
                 let trailer = file.len() - BLOCK;
                 file[trailer] = b'X';
@@ -269,15 +279,47 @@ fn every_number_of_records() {
     }
 }
 
-/// The last data record has the key of an earlier one.
+/// The last data record has the key of an earlier one: of any, of the first, and of the one before it.
 #[test]
 fn every_number_of_records_with_a_repeated_key() {
     let (mut both, mut rng) = (both(), Rng::new(settings::seed()));
-    for n in 2..=MOST_RECORDS {
+    for n in numbers_of_records().filter(|n| (2..=MOST_RECORDS).contains(n)) {
         let mut draft = gen::evidence_of(&mut rng, Profile::PartlyExempt, n);
-        let earlier = rng.index(n - 1);
-        draft.records[n - 1] = draft.records[earlier].clone();
-        assert_eq!(compare_reading(&mut both, 1, &draft.file()), Answer::placed(7, n, 6));
+        for earlier in [rng.index(n - 1), 0, n - 2] {
+            draft.records[n - 1] = draft.records[earlier].clone();
+            assert_eq!(compare_reading(&mut both, 1, &draft.file()), Answer::placed(7, n, 6));
+        }
+    }
+}
+
+/// A record too many, and the last one that there may be, with something wrong in an item or in the filler: what comes
+/// before the record too many is told first, and nothing of it or behind it.
+#[test]
+fn about_the_record_too_many() {
+    let (mut both, mut rng) = (both(), Rng::new(settings::seed()));
+    for (number, profile) in profiles() {
+        let draft = match profile {
+            Profile::Ordinary => evidence_of_lengths(&mut rng, &[9; MOST_RECORDS + 1]),
+            Profile::PartlyExempt => gen::evidence_of(&mut rng, profile, MOST_RECORDS + 1),
+        };
+        let good = draft.file();
+        let three = Answer::without_place(3);
+        for (record, first, last) in [
+            (
+                MOST_RECORDS,
+                Answer::broken(MOST_RECORDS, 1, b"0081"),
+                Answer::broken(MOST_RECORDS, 14, b"0089"),
+            ),
+            (MOST_RECORDS + 1, three, three),
+            (MOST_RECORDS + 2, three, three),
+        ] {
+            for (place, expected) in [(record * BLOCK, first), (record * BLOCK + BLOCK - 1, last)] {
+                let mut file = good.clone();
+                file[place] = b'X';
+                assert_eq!(compare_reading(&mut both, number, &file), expected, "byte {place}");
+                assert_eq!(compare_part(&mut both, number, &file, 1), (expected, [0, 0, 0]));
+            }
+        }
     }
 }
 
@@ -426,7 +468,7 @@ fn every_part_of_a_file() {
         let file = evidence_of_lengths(&mut rng, &lengths).file();
         let mut start = BLOCK;
         for (before, &length) in lengths.iter().enumerate() {
-            let asked = n < 30 || before % 50 == 0 || before + 1 == n;
+            let asked = n < 30 || before % 99 == 0 || before + 1 == n;
             if asked {
                 let expected = [1, (start + FRONT_LENGTH) as u64, length as u64];
                 let told = compare_part(&mut both, 0, &file, before as u64 + 1);

@@ -2,7 +2,7 @@
 //!
 //! `OUTSIDE_SEED` and `OUTSIDE_COUNT` choose the generated files.
 
-use super::common::{check_coverage, good_file, keep, proved_shown, put, shown};
+use super::common::{check_coverage, good_file, keep, numbers_of_records, proved_shown, put, shown};
 use outside::bridge::{ask, Call, Queue, Said};
 use outside::coverage::{Counter, Operation};
 use outside::evidence::layout::{Profile, BLOCK};
@@ -227,7 +227,7 @@ fn every_kind_of_file() {
 #[test]
 fn every_number_of_enrolments() {
     let (mut both, mut rng) = (both(), Rng::new(settings::seed()));
-    for n in (0..=40).chain((41..MOST_RECORDS).step_by(13)).chain([MOST_RECORDS]) {
+    for n in numbers_of_records().filter(|n| *n <= MOST_RECORDS) {
         let (enrolments, mut evidence) = enrolments_of(&mut rng, Profile::PartlyExempt, &vec![b'1'; n]);
         evidence.records.reverse();
         let (file, beside) = (enrolments.file(), evidence.file());
@@ -235,15 +235,23 @@ fn every_number_of_enrolments() {
         if n == 0 {
             continue;
         }
-        let before = rng.index(n);
-        let mut fewer = evidence.clone();
-        fewer.records.remove(n - 1 - before);
-        assert_eq!(compare(&mut both, 1, &file, &fewer.file()), Answer::placed(20, before + 1, 6));
-        let mut other = file.clone();
-        put(&mut other, (before + 1) * 120 + 25, b"7");
-        gen::mend_totals(Kind::EB13, &mut other);
-        assert_eq!(compare(&mut both, 1, &other, &beside), Answer::placed(21, n - before, 6));
+        for before in [rng.index(n), 0, n - 1] {
+            let mut fewer = evidence.clone();
+            fewer.records.remove(n - 1 - before);
+            assert_eq!(compare(&mut both, 1, &file, &fewer.file()), Answer::placed(20, before + 1, 6));
+            let mut other = file.clone();
+            put(&mut other, (before + 1) * 120 + 25, b"7");
+            gen::mend_totals(Kind::EB13, &mut other);
+            assert_eq!(compare(&mut both, 1, &other, &beside), Answer::placed(21, n - before, 6));
+        }
     }
+    let three = Answer::without_place(3);
+    let many = good_file(&mut rng, Kind::EB13, MOST_RECORDS + 1);
+    let none = gen::evidence_of(&mut rng, Profile::PartlyExempt, 0).file();
+    assert_eq!(compare(&mut both, 1, &many, &none), three.on_side(1));
+    let few = good_file(&mut rng, Kind::EB13, 1);
+    let many = gen::evidence_of(&mut rng, Profile::PartlyExempt, MOST_RECORDS + 1).file();
+    assert_eq!(compare(&mut both, 1, &few, &many), three.on_side(2));
 }
 
 /// The longest files of both kinds.

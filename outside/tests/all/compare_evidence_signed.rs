@@ -54,7 +54,7 @@ fn told_alike(reading: &mut Both, writing: &mut writes::Both, draft: &EvidenceDr
 fn every_record() {
     let (mut reading, mut writing, mut rng) = (both(), writes::both(), Rng::new(settings::seed()));
     let few = (1..=12).flat_map(|n| (1..=n).map(move |record| (n, record)));
-    let many = [1, 2, 215, 429, 430].map(|record| (MOST_RECORDS, record));
+    let many = [1, 2, 430, 1_000, MOST_RECORDS - 1, MOST_RECORDS].map(|record| (MOST_RECORDS, record));
     for (n, record) in few.chain(many) {
         let mut draft = signed_of(&mut rng, &vec![frame(); n]);
         assert_eq!(told_alike(&mut reading, &mut writing, &draft), Answer::accepted());

@@ -2,7 +2,9 @@
 //!
 //! `OUTSIDE_SEED` and `OUTSIDE_COUNT` choose the generated inputs.
 
-use super::common::{check_coverage, evidence_of_lengths, keep, proved_shown_with_room, shown};
+use super::common::{
+    check_coverage, evidence_of_lengths, keep, numbers_of_records, proved_shown_with_room, shown,
+};
 use outside::bridge::{ask, Call, Queue, Said};
 use outside::coverage::{Counter, Operation};
 use outside::evidence::layout::{Profile, BLOCK, FRONT_LENGTH, GIVEN_LENGTH, MOST_BLOCKS};
@@ -217,7 +219,7 @@ fn every_byte_at_every_place() {
 #[test]
 fn every_number_of_records() {
     let (mut both, mut rng) = (both(), Rng::new(settings::seed()));
-    for n in 0..=MOST_RECORDS + 2 {
+    for n in numbers_of_records() {
         let draft = gen::evidence_of(&mut rng, Profile::PartlyExempt, n);
         let (file, records) = (draft.file(), draft.given());
         let written = compare(&mut both, input(1, &draft, &records, file.len()));

@@ -2,7 +2,7 @@
 //!
 //! `OUTSIDE_SEED` and `OUTSIDE_COUNT` choose the generated pairs.
 
-use super::common::{check_coverage, good_file, keep, put, shown};
+use super::common::{check_coverage, good_file, keep, numbers_of_records, put, shown};
 use outside::bridge::{ask, Call, Queue, Said};
 use outside::coverage::{Counter, Operation};
 use outside::gen::{self, Draft, Rng, LARGEST_AMOUNT};
@@ -149,7 +149,7 @@ fn paired(both: &mut Both, kinds: PairKind, request: &[u8], result: &[u8]) -> (A
 
 /// Numbers that no file reaches, and those that a narrower number would take for small ones.
 const LARGE: [u64; 9] = [
-    431,
+    MOST_RECORDS as u64 + 1,
     1 << 32,
     (1 << 32) + 1,
     (1 << 32) + 2,
@@ -279,12 +279,16 @@ fn two_answered(rng: &mut Rng, kinds: PairKind) -> (Draft, Draft) {
 fn every_number_of_requests() {
     let (mut both, mut rng) = (both(), Rng::new(settings::seed()));
     for kinds in PairKind::ALL {
-        for n in 0..=MOST_RECORDS + 1 {
+        for n in numbers_of_records() {
             let request = gen::request_of(&mut rng, kinds.request(), n);
             let result = gen::result_of(&mut rng, &request, true).file();
             let (told, taken, not_taken) = paired(&mut both, kinds, &request.file(), &result);
             if n > MOST_RECORDS {
                 assert_eq!(told, Answer::without_place(3).on_side(1));
+                let fewer = good_file(&mut rng, kinds.request(), 2);
+                let many = good_file(&mut rng, kinds.result(), n);
+                let told = paired(&mut both, kinds, &fewer, &many).0;
+                assert_eq!(told, Answer::without_place(3).on_side(2));
                 continue;
             }
             assert_eq!(told, Answer::accepted());
@@ -294,6 +298,52 @@ fn every_number_of_requests() {
             let n = n as u64;
             for record in [0, 1, n / 2, n, n + 1] {
                 compare(&mut both, kinds.number(), &request.file(), &result, Asked::Outcome(record));
+            }
+        }
+    }
+}
+
+/// As many requests as there may be, and results in any order for all of them but some; then one of the results is a
+/// stranger's, differs from its request or, in debit, has an impossible amount, wherever it stands.
+#[test]
+fn the_longest_pairs() {
+    let (mut both, mut rng) = (both(), Rng::new(settings::seed()));
+    for kinds in PairKind::ALL {
+        let request = request_of(&mut rng, kinds, MOST_RECORDS, |_| (20_000, b'2'));
+        let asked = request.file();
+        let mut order: Vec<usize> = (0..MOST_RECORDS).collect();
+        for left_out in [0, 1, MOST_RECORDS / 2] {
+            rng.shuffle(&mut order);
+            let answered = &order[left_out..];
+            let answers: Vec<_> = answered.iter().map(|&which| (which, b"N0021", 20_000)).collect();
+            let good = result_of(&request, &answers);
+            let (told, taken, not_taken) = paired(&mut both, kinds, &asked, &good.file());
+            assert_eq!(told, Answer::accepted());
+            for (place, (taken, not_taken)) in taken.into_iter().zip(not_taken).enumerate() {
+                let won = if kinds.is_debit() { 20_000 } else { 1 };
+                let expected = if answered.contains(&place) { (0, won) } else { (won, 0) };
+                assert_eq!((taken, not_taken), expected, "{kinds:?}, request {}", place + 1);
+            }
+            for at in [0, 1, 429, 430, answered.len() / 2, answered.len() - 1] {
+                let mut faults = vec![(kinds.key_item(), &b"STRANGER"[..], 13), (14, b"~~~~~~~~~~~~", 13)];
+                if kinds.is_debit() {
+                    faults.push((6, b"0000000019999", 14));
+                }
+                for (item, text, number) in faults {
+                    let mut result = good.clone();
+                    put_item(result.kind, &mut result.bodies[at], item, text);
+                    let told = paired(&mut both, kinds, &asked, &result.file()).0;
+                    assert_eq!(told, Answer::placed(number, at + 1, item), "{kinds:?}");
+                }
+            }
+            for record in [0, 1, 430, 431, MOST_RECORDS as u64, MOST_RECORDS as u64 + 1] {
+                compare(&mut both, kinds.number(), &asked, &good.file(), Asked::Outcome(record));
+            }
+            for (ones, others) in
+                [(MOST_RECORDS - 1, MOST_RECORDS), (MOST_RECORDS, MOST_RECORDS - 1), (430, 430)]
+            {
+                let told = compare(&mut both, kinds.number(), &asked, &good.file(), lists(ones, others)).0;
+                assert_eq!(told, Answer::without_place(8));
             }
         }
     }

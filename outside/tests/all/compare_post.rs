@@ -2,14 +2,14 @@
 //!
 //! `OUTSIDE_SEED` and `OUTSIDE_COUNT` choose the generated pairs.
 
-use super::common::{check_coverage, good_file, keep};
+use super::common::{check_coverage, good_file, keep, numbers_of_records};
 use outside::bridge::{ask, Call, Queue, Said};
 use outside::coverage::{Counter, Operation};
 use outside::gen::{self, Draft, Rng};
-use outside::layout::{is_bank_code, table_codes, Kind, PairKind};
+use outside::layout::{is_bank_code, table_codes, Kind, PairKind, MOST_RECORDS};
 use outside::post::{settle_files, LONGEST_FILE};
 use outside::shrink::shrink;
-use outside::{post, post_into, settings, Answer};
+use outside::{pair, post, post_into, settings, Answer};
 
 /// How much is stored, and the whole text afterwards.
 type Posted = (u64, Vec<u8>);
@@ -109,12 +109,21 @@ fn debit_pair(rng: &mut Rng) -> (Vec<u8>, Vec<u8>) {
     }
 }
 
-/// The length that is too long, with files that would be read otherwise.
+/// As many requests as the program has room for.
+const MOST_POSTED: usize = LONGEST_FILE / 150 - 2;
+
+/// The first line that is printed.
+fn first_line(request: &[u8], result: &[u8]) -> String {
+    let text = String::from_utf8(post(request, result)).expect("text");
+    text.lines().next().expect("a line").to_string()
+}
+
+/// The length that is too long, with files that would be read otherwise, or refused for something else.
 #[test]
 fn the_longest_files() {
     let (mut both, mut rng) = (both(), Rng::new(settings::seed()));
-    let most = [Kind::EB21, Kind::EB22].map(|kind| good_file(&mut rng, kind, 430));
-    assert_eq!(most[0].len(), LONGEST_FILE);
+    let most = [Kind::EB21, Kind::EB22].map(|kind| good_file(&mut rng, kind, MOST_POSTED));
+    assert_eq!(most[0].len(), 64_800);
     let mut files = vec![vec![], vec![b' '; 150], good_file(&mut rng, Kind::EB21, 0)];
     for file in most {
         for more in [0, 1, 150] {
@@ -122,21 +131,67 @@ fn the_longest_files() {
         }
         files.push(file[1..].to_vec());
     }
+    for kind in [Kind::EB21, Kind::EB22] {
+        files.push(good_file(&mut rng, kind, MOST_POSTED + 1));
+        files.push(good_file(&mut rng, kind, MOST_RECORDS));
+    }
     for request in &files {
         for result in &files {
             compare(&mut both, request, result);
+            let too_long = [request, result].iter().position(|file| file.len() > 64_800);
+            if let Some(before) = too_long {
+                assert_eq!(first_line(request, result), format!("refused {} 3 0 0 0000", before + 1));
+            }
         }
     }
 }
 
-/// Every number of requests, so every width of a line.
+/// Pairs that the library takes and the program has no room for: 65,250 bytes, 300,300, and some more. The side that is too
+/// long is told before all else, request first.
+#[test]
+fn pairs_that_only_the_reader_takes() {
+    let (mut both, mut rng) = (both(), Rng::new(settings::seed()));
+    let small = gen::request_of(&mut rng, Kind::EB21, 2).file();
+    for n in [MOST_POSTED + 1, 433, 665, 1_000, MOST_RECORDS - 1, MOST_RECORDS] {
+        let request = gen::request_of(&mut rng, Kind::EB21, n);
+        let mut result = gen::result_of(&mut rng, &request, true);
+        while result.bodies.len() < n {
+            result = gen::result_of(&mut rng, &request, true);
+        }
+        let few = Draft { bodies: result.bodies[..2].to_vec(), ..result.clone() }.file();
+        let (request, result) = (request.file(), result.file());
+        assert_eq!((request.len(), result.len()), ((n + 2) * 150, (n + 2) * 150));
+        let mut lists = [(); 2].map(|()| vec![0; n]);
+        let [taken, not_taken] = &mut lists;
+        assert!(pair(Kind::EB21.number(), &request, &result, taken, not_taken).is_accepted());
+        for (one, other, side) in [
+            (&request[..], &result[..], 1),
+            (&request, &few, 1),
+            (&request, b"", 1),
+            (&small, &result, 2),
+            (b"", &result, 2),
+            (&small[1..], &result, 2),
+            (&few, &result, 2),
+        ] {
+            compare(&mut both, one, other);
+            assert_eq!(first_line(one, other), format!("refused {side} 3 0 0 0000"), "{n} records");
+        }
+    }
+}
+
+/// About as many requests as the program has room for, so every width of a line; more are too many.
 #[test]
 fn every_number_of_requests() {
     let (mut both, mut rng) = (both(), Rng::new(settings::seed()));
-    for n in 0..=431 {
+    let numbers = (0..=MOST_POSTED + 1).chain(numbers_of_records().filter(|n| *n > MOST_POSTED + 1));
+    for n in numbers {
         let request = gen::request_of(&mut rng, Kind::EB21, n);
         let result = gen::result_of(&mut rng, &request, true);
         compare(&mut both, &request.file(), &result.file());
+        let first = first_line(&request.file(), &result.file());
+        let expected =
+            if n > MOST_POSTED { "refused 1 3 0 0 0000".to_string() } else { format!("accepted {n} ") };
+        assert!(first.starts_with(&expected), "{n} requests: {first}");
     }
 }
 

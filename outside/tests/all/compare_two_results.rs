@@ -5,7 +5,7 @@
 //!
 //! `OUTSIDE_SEED` and `OUTSIDE_COUNT` choose the generated inputs.
 
-use super::common::{check_coverage, good_file, keep, proved_shown, put, shown};
+use super::common::{check_coverage, good_file, keep, numbers_of_records, proved_shown, put, shown};
 use super::two_results::{
     every_order, first_told_otherwise, put_item, request_of, result_of, same_in_some_order, Told, DEBITS,
 };
@@ -414,7 +414,7 @@ fn amounts_at_every_edge() {
 #[test]
 fn every_number_of_requests() {
     let (mut both, mut rng) = (both(), Rng::new(settings::seed()));
-    for n in 0..=MOST_RECORDS + 1 {
+    for n in numbers_of_records() {
         let kinds = DEBITS[n % 2];
         let request = request_of(&mut rng, kinds, &vec![(20_000, b'2'); n]);
         let told: Vec<Told> =

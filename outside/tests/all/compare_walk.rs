@@ -2,7 +2,7 @@
 //!
 //! `OUTSIDE_SEED` and `OUTSIDE_COUNT` choose the generated files.
 
-use super::common::{check_coverage, good_file, keep, proved_shown, shown};
+use super::common::{check_coverage, good_file, keep, numbers_of_records, proved_shown, shown};
 use outside::bridge::{ask, Call, Queue, Said};
 use outside::coverage::{Counter, Operation};
 use outside::gen::{self, Rng};
@@ -54,7 +54,16 @@ fn report(Input { kind, file, place }: &Input) -> ! {
 }
 
 /// Places past every file, and those that a narrower number would take for small ones.
-const LARGE: [u64; 8] = [430, 431, 1 << 32, (1 << 32) + 1, (1 << 63) - 1, 1 << 63, u64::MAX - 1, u64::MAX];
+const LARGE: [u64; 8] = [
+    MOST_RECORDS as u64,
+    MOST_RECORDS as u64 + 1,
+    1 << 32,
+    (1 << 32) + 1,
+    (1 << 63) - 1,
+    1 << 63,
+    u64::MAX - 1,
+    u64::MAX,
+];
 
 #[test]
 fn generated_files() {
@@ -83,19 +92,19 @@ fn generated_files() {
     check_coverage(&counter, count);
 }
 
-/// Record after record of files of every size, then the end each time.
+/// Record after record of files of many sizes, some of them of the longest, then the end each time.
 #[test]
 fn every_number_of_records() {
     let (mut both, mut rng) = (both(), Rng::new(settings::seed()));
     for kind in Kind::ALL {
         let length = kind.record_length() as u64;
-        for n in 0..=MOST_RECORDS + 1 {
+        for n in numbers_of_records() {
             let file = good_file(&mut rng, kind, n);
             let n = n as u64;
-            let places = if (20..430).contains(&n) {
-                vec![0, n / 2, n - 1, n, n + 1, u64::MAX]
-            } else {
-                (0..=n + 1).chain(LARGE).collect()
+            let places: Vec<u64> = match n {
+                0..20 => (0..=n + 1).chain(LARGE).collect(),
+                20..430 => vec![0, n / 2, n - 1, n, n + 1, u64::MAX],
+                _ => (0..=n).step_by(331).chain([n - 1, n, n + 1]).chain(LARGE).collect(),
             };
             for place in places {
                 let said = compare(&mut both, kind.number(), &file, place);

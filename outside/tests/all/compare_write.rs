@@ -2,11 +2,13 @@
 //!
 //! `OUTSIDE_SEED` and `OUTSIDE_COUNT` choose the generated inputs.
 
-use super::common::{check_coverage, keep, proved_shown_with_room, put, shown, small_told};
+use super::common::{
+    check_coverage, keep, numbers_of_records, proved_shown_with_room, put, shown, small_told,
+};
 use outside::bridge::{ask, Call, Queue, Said};
 use outside::coverage::{Counter, Operation};
 use outside::gen::{self, Draft, Rng, WriteInput};
-use outside::layout::{Kind, PairKind};
+use outside::layout::{Kind, PairKind, MOST_RECORDS};
 use outside::proved::Parts;
 use outside::{settings, write, Answer};
 
@@ -128,6 +130,79 @@ fn every_kind_of_file() {
                 Some(kind) => (Answer::accepted(), Draft { kind, ..draft.clone() }.file()),
             };
             assert!((told, room) == expected, "{pair:?} as {number:#010x}: {told:?}");
+        }
+    }
+}
+
+/// As many bodies as there may be and more, in a room that is just long enough, a byte too short, and of no bytes; and with
+/// a byte more than the bodies have.
+#[test]
+fn every_number_of_bodies() {
+    let (mut both, mut rng) = (both(), Rng::new(settings::seed()));
+    for kind in PairKind::ALL.map(PairKind::request) {
+        for n in numbers_of_records() {
+            let draft = gen::request_of(&mut rng, kind, n);
+            let good = input(&draft, kind.number());
+            let exact = good.room.len();
+            assert_eq!(exact, (n + 2) * kind.record_length());
+            for shorter in [0, 1, exact] {
+                let room = vec![0xc3; exact - shorter];
+                let (told, left) = compare(&mut both, WriteInput { room: room.clone(), ..good.clone() });
+                let expected = match (n > MOST_RECORDS, shorter) {
+                    (true, _) => (Answer::without_place(3), room),
+                    (false, 0) => (Answer::accepted(), draft.file()),
+                    (false, _) => (Answer::without_place(8), room),
+                };
+                assert!(
+                    (told, left) == expected,
+                    "{n} bodies of {kind:?}, {shorter} bytes too few: {told:?}"
+                );
+            }
+            let more = [&good.bodies[..], b" "].concat();
+            let (told, _) = compare(&mut both, WriteInput { bodies: more, ..good });
+            assert_eq!(told, Answer::without_place(2));
+        }
+    }
+}
+
+/// The last body of as many as there may be has something wrong: an item, the key of an earlier one, or so large an amount
+/// that the sum has too many digits.
+#[test]
+fn the_last_of_the_most_bodies() {
+    let (mut both, mut rng) = (both(), Rng::new(settings::seed()));
+    for kind in PairKind::ALL.map(PairKind::request) {
+        let draft = gen::request_of(&mut rng, kind, MOST_RECORDS);
+        let with = |change: &dyn Fn(&mut Draft)| {
+            let mut changed = draft.clone();
+            change(&mut changed);
+            input(&changed, kind.number())
+        };
+        let key = |draft: &mut Draft, earlier: usize| {
+            draft.bodies[MOST_RECORDS - 1] = draft.bodies[earlier].clone();
+            // What is the same of both stays the same, and their sum has 13 digits at most.
+            if kind.is_debit() {
+                draft.bodies.iter_mut().for_each(|body| put_debit(body, 1_000, b'0'));
+            }
+        };
+        let filler = with(&|draft| *draft.bodies[MOST_RECORDS - 1].last_mut().expect("a body") = b'x');
+        let item = if kind.is_debit() { 15 } else { 16 };
+        let mut inputs = vec![(filler, Answer::broken(MOST_RECORDS, item, b"0089"))];
+        for earlier in [0, MOST_RECORDS / 2, MOST_RECORDS - 2] {
+            let given = with(&|draft| key(draft, earlier));
+            inputs.push((given, Answer::placed(7, MOST_RECORDS, kind.key_item())));
+        }
+        if kind.is_debit() {
+            let all = |amount: u64| {
+                with(&|draft| draft.bodies.iter_mut().for_each(|body| put_debit(body, amount, b'0')))
+            };
+            let over = Answer::placed(6, MOST_RECORDS + 1, 7);
+            // 2,000 times 4,999,999,999 is below 10^13, and 2,000 times a won more is that.
+            inputs.push((all(4_999_999_999), Answer::accepted()));
+            inputs.push((all(5_000_000_000), over));
+            inputs.push((all(gen::LARGEST_AMOUNT), over));
+        }
+        for (given, expected) in inputs {
+            assert_eq!(compare(&mut both, given).0, expected, "{kind:?}");
         }
     }
 }

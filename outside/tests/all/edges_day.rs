@@ -7,7 +7,7 @@ use super::common::{proved_day_shown, refused_in, refused_in_parts};
 use outside::bridge::{Breach, Call, Said};
 use outside::coverage::{Counter, Operation};
 use outside::coverage_day::{DayEntry, DayOperation, Told};
-use outside::day::layout::KINDS;
+use outside::day::layout::{Form, KINDS};
 use outside::gen::DayWriteInput;
 use outside::proved::DayParts;
 use outside::{day_body, day_read, day_write, eight_of_day, ten_of_body, Answer, DayAnswer};
@@ -86,18 +86,19 @@ fn note(counter: &mut [Counter<DayEntry>; 3], case: &Case) {
     let (told, last) = (told(case), case.answer[7]);
     let [reading, asking, writing] = counter;
     match &case.asked {
-        Asked::Read { file } => {
-            reading.note_bodies(DayOperation::Read, &told, last, refused_in(file, &told));
+        Asked::Read { file } => reading.note_reading(file, &told, last, refused_in(file, &told)),
+        Asked::Body { file, which } => {
+            asking.note_body(file, &told, *which, last, refused_in(file, &told));
         }
-        Asked::Body { file, which } => asking.note_body(&told, *which, last, refused_in(file, &told)),
         Asked::Write { given, .. } => {
             let refused = refused_in_parts(&given.names, &given.lengths, &told);
-            writing.note_bodies(DayOperation::Write, &told, given.lengths.len() as u64, refused);
+            writing.note_writing(&given.lengths, &told, refused);
         }
     }
 }
 
-/// Every number; 32 at every body that can be told, and 33 with every own number; and no answer that the rules can't give.
+/// Every number, in both forms; 32 and 33 at every body that can be told, and 33 with every own number; and no answer
+/// that the rules can't give.
 #[test]
 fn the_list_has_every_answer() {
     let mut counters = [DayOperation::Read, DayOperation::Body, DayOperation::Write].map(Counter::of_day);
@@ -112,21 +113,27 @@ fn the_list_has_every_answer() {
         let unlisted = counter.unlisted();
         assert!(unlisted.is_empty(), "the rules can't give: {unlisted:#?}");
         let never = counter.never();
-        let reached = |told: Told| !never.iter().any(|entry| entry.told == told);
-        assert!(reached(Told::Alone(30)) && reached(Told::Alone(31)));
-        assert!((1..=7).all(|number| (1..=16).any(|body| reached(Told::Refused(body, number)))));
+        let reached = |form, told| !never.iter().any(|entry| (entry.form, entry.told) == (form, told));
+        assert!(reached(None, Told::Alone(30)));
+        assert!(Form::ALL.into_iter().all(|form| reached(Some(form), Told::Alone(31))));
+        assert!((1..=7).all(|number| (1..=16).any(|body| reached(None, Told::Refused(body, number)))));
     }
     let [reading, asking, writing] = counters.map(|counter| counter.never());
-    let reached = |never: &[DayEntry], told: Told| !never.iter().any(|entry| entry.told == told);
-    for never in [&reading, &writing] {
-        assert!([0, 1, 2, 4, 6, 16].into_iter().all(|bodies| reached(never, Told::Accepted(bodies))));
+    let reached = |never: &[DayEntry], form: Form, told: Told| {
+        !never.iter().any(|entry| (entry.form, entry.told) == (Some(form), told))
+    };
+    for (form, numbers) in [(Form::One, &[0, 1, 2, 4, 6, 16][..]), (Form::Two, &[1, 2, 16])] {
+        for never in [&reading, &writing] {
+            assert!(numbers.iter().all(|&bodies| reached(never, form, Told::Accepted(bodies))));
+        }
+        for body in 2..=16 {
+            assert!(reached(&reading, form, Told::Repeated(body)), "{form:?}: 32 at {body}");
+        }
+        for body in 1..=16 {
+            assert!(reached(&reading, form, Told::RefusedBody(body)), "{form:?}: 33 at {body}");
+            assert!(reached(&asking, form, Told::There(body)), "{form:?}: body {body}");
+        }
+        assert!(reached(&reading, form, Told::Alone(30)) && reached(&asking, form, Told::Alone(30)));
+        assert!(reached(&asking, form, Told::NotThere) && reached(&writing, form, Told::Alone(8)));
     }
-    for body in 2..=16 {
-        assert!(reached(&reading, Told::Repeated(body)), "32 at {body}");
-    }
-    for body in 1..=16 {
-        assert!((1..=7).any(|number| reached(&reading, Told::Refused(body, number))), "33 at {body}");
-        assert!(reached(&asking, Told::There(body)), "body {body}");
-    }
-    assert!(reached(&asking, Told::NotThere) && reached(&writing, Told::Alone(8)));
 }

@@ -460,20 +460,32 @@ fn joined_kinds(rows: impl Iterator<Item = (String, String, u64)>) -> Vec<Eviden
     kinds
 }
 
-/// The kinds of evidence that the library takes.
-fn evidence_kinds(definitions: &Definitions) -> Vec<EvidenceKind> {
-    definitions
-        .is("allow most kind extension = record { kind = kind; extension = extension; most = most }");
-    let words = definitions.spelled(&["allowed".to_string()], &["allow"]);
+/// The rows of a table, whose words begin with its name.
+fn rows_of(definitions: &Definitions, table: &str, row: &str) -> Vec<[String; 2]> {
+    let words = definitions.spelled(&[table.to_string()], &[row]);
     let marks = ["(", ")", "∷", "++", "[]"];
     let words: Vec<String> = words.into_iter().filter(|word| !marks.contains(&word.as_str())).collect();
-    joined_kinds(words.chunks(4).map(|row| match row {
-        [allow, most, kind, extension] if allow == "allow" => {
-            let most = most.parse().unwrap_or_else(|_| panic!("no number: {most}"));
-            (letters(kind), letters(extension).trim_end().to_string(), most)
-        }
-        _ => panic!("not understood: {row:?}"),
-    }))
+    let rows = words.chunks(3).map(|words| match words {
+        [name, first, second] if name == row => [first.clone(), second.clone()],
+        _ => panic!("not understood: {words:?}"),
+    });
+    rows.collect()
+}
+
+/// The kinds of evidence that the library takes.
+fn evidence_kinds(definitions: &Definitions) -> Vec<EvidenceKind> {
+    definitions.is("allow kind extension = kind * 0x10000000000 + extension");
+    definitions.is("sized kind most = record { kind = kind; most = most }");
+    let sizes = rows_of(definitions, "sizes", "sized");
+    let most = |kind: &str| {
+        let most = sizes.iter().find(|[of, _]| of == kind).map(|[_, most]| most.parse());
+        most.and_then(Result::ok).unwrap_or_else(|| panic!("no size: {kind}"))
+    };
+    joined_kinds(
+        rows_of(definitions, "allowed", "allow").into_iter().map(|[kind, extension]| {
+            (letters(&kind), letters(&extension).trim_end().to_string(), most(&kind))
+        }),
+    )
 }
 
 /// How many blocks a record has whose evidence is so long, and how many bytes are left behind it.
@@ -946,13 +958,11 @@ fn a_changed_table_of_evidence_is_seen() {
     let (page, kinds) = (text("docs/ITEMS.md"), text(EVIDENCE_KINDS));
     for (from, to) in [
         ("signed = 10240", "signed = 5120"),
-        (
-            "allow large kind mp3 ∷ allow large kind wav ∷ allow large kind wma ∷ []",
-            "allow large kind mp3 ∷ []",
-        ),
+        ("allow kind mp3 ∷ allow kind wav ∷ allow kind wma ∷ []", "allow kind mp3 ∷ []"),
         ("txt = 0x7478742020", "txt = 0x7478747420"),
-        ("allow signed 0x32 der ∷", ""),
-        ("others 0x36", "others 0x37"),
+        ("allow 0x32 der ∷", ""),
+        ("others 0x36", "others 0x31"),
+        ("sized 0x34 large", "sized 0x34 signed"),
     ] {
         let kinds = evidence_kinds(&Definitions::of(&changed(&kinds, from, to)));
         assert_ne!(kinds, documented_kinds(&page), "{from}");

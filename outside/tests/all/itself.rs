@@ -1,7 +1,7 @@
 //! The reference against the rules: their edge cases, the places where two
 //! careful readers of them could differ (a01 to a56, q3a to q3c of makers and
-//! item 10, and q4a to q4e of same-day debits), and properties over generated
-//! inputs.
+//! item 10, q4a to q4e of same-day debits, and q12b of the program's room), and
+//! properties over generated inputs.
 //!
 //! `OUTSIDE_SEED` and `OUTSIDE_COUNT` choose the generated inputs.
 
@@ -289,10 +289,15 @@ fn other_edges() {
             "EC21" => debit(300, "0", &format!("P{k}"), ""),
             _ => debit(1, "0", &format!("P{k}"), "P    "),
         };
-        let most: Vec<_> = (1..=430).map(body).collect();
-        let more: Vec<_> = (1..=431).map(body).collect();
-        assert_eq!(read(number(kind), &file(kind, &most)), accepted());
-        assert_eq!(read(number(kind), &file(kind, &more)), answer(0, 3, 0, 0, "0000"));
+        // What was the most, and one more.
+        for n in [430, 431, 1_999, 2_000] {
+            let bodies: Vec<_> = (1..=n).map(body).collect();
+            assert_eq!(read(number(kind), &file(kind, &bodies)), accepted(), "{kind} {n}");
+        }
+        for n in [2_001, 2_002, 4_000] {
+            let bodies: Vec<_> = (1..=n).map(body).collect();
+            assert_eq!(read(number(kind), &file(kind, &bodies)), answer(0, 3, 0, 0, "0000"), "{kind} {n}");
+        }
         for size in [0, 1, 119, 120, 149, 150, 151] {
             let told = read(number(kind), &vec![b' '; size]);
             assert_eq!(told, answer(0, 2, 0, 0, "0000"), "{kind} {size}");
@@ -304,12 +309,13 @@ fn other_edges() {
     // The most records can be written, one more can't.
     for (kind, least) in [("EB21", 140), ("EC21", 300)] {
         let body = |k: usize| debit(least, "0", &format!("P{k}"), "");
-        let most: Vec<_> = (1..=430).map(body).collect();
-        let more: Vec<_> = (1..=431).map(body).collect();
+        let most: Vec<_> = (1..=2_000).map(body).collect();
+        let more: Vec<_> = (1..=2_001).map(body).collect();
         let written = |bodies: &[Vec<u8>], room| written_as(number(kind), bodies, DATE, room);
-        assert_eq!(written(&most, 64_800), (accepted(), file(kind, &most)));
-        assert_eq!(written(&most, 64_799).0, answer(0, 8, 0, 0, "0000"));
-        assert_eq!(written(&more, 70_000).0, answer(0, 3, 0, 0, "0000"));
+        assert_eq!(written(&most[..431], 64_950), (accepted(), file(kind, &most[..431])));
+        assert_eq!(written(&most, 300_300), (accepted(), file(kind, &most)));
+        assert_eq!(written(&most, 300_299).0, answer(0, 8, 0, 0, "0000"));
+        assert_eq!(written(&more, 400_000).0, answer(0, 3, 0, 0, "0000"));
     }
 }
 
@@ -675,8 +681,11 @@ fn a19_sums_over_13_digits() {
     // N and P are summed each by itself.
     let result = file("EB22", &[debit(large, "0", "A", "N0021"), debit(large, "0", "B", "P0021")]);
     assert_eq!(read(EB22, &result), accepted());
-    let all: Vec<_> = (1..=430).map(|k| debit(large, "0", &format!("P{k}"), "")).collect();
-    assert_eq!(read(EB21, &file("EB21", &all)), answer(0, 6, 431, 7, "0000"));
+    // 430 and 2,000 of them have 16 and 17 digits.
+    for n in [430, 2_000] {
+        let all: Vec<_> = (1..=n).map(|k| debit(large, "0", &format!("P{k}"), "")).collect();
+        assert_eq!(read(EB21, &file("EB21", &all)), answer(0, 6, n + 1, 7, "0000"));
+    }
 }
 
 #[test]
@@ -776,11 +785,12 @@ fn a24_a25_lengths_in_the_writer() {
     assert_eq!(eb21(b"", b"", b""), two);
     assert_eq!(eb21(b"0046554", b"65501053333     ", &[b' '; 130]), two);
     // 2 before 3 before 8 before the items.
-    let many = vec![b' '; 431 * 131];
-    let more = vec![b' '; 431 * 131 + 1];
+    let many = vec![b' '; 2_001 * 131];
+    let more = vec![b' '; 2_001 * 131 + 1];
     assert_eq!(eb21(b"0046554", b"65501053333     ", &more), two);
     assert_eq!(eb21(b"0046554", b"65501053333     ", &many), answer(0, 3, 0, 0, "0000"));
     assert_eq!(eb21(b"0046554", b"65501053333     ", &many[..131]), answer(0, 8, 0, 0, "0000"));
+    assert_eq!(eb21(b"0046554", b"65501053333     ", &many[..2_000 * 131]), answer(0, 8, 0, 0, "0000"));
 }
 
 #[test]
@@ -836,9 +846,11 @@ fn a30_a31_a32_a33_answers() {
     assert_eq!(read(0, b""), answer(0, 1, 0, 0, "0000"));
     assert_eq!(read(EB21.swap_bytes(), b""), answer(0, 1, 0, 0, "0000"));
     assert_eq!(read(number("EB12"), &sample("EB13")), answer(0, 1, 0, 0, "0000"));
-    assert_eq!(read(EB21, &vec![0; 433 * 150]), answer(0, 3, 0, 0, "0000"));
-    assert_eq!(read(EB21, &vec![0; 433 * 150 + 1]), answer(0, 2, 0, 0, "0000"));
-    assert_eq!(read(EB21, &vec![0; 432 * 150]), answer(0, 4, 0, 1, "0081"));
+    assert_eq!(read(EB21, &vec![0; 2_003 * 150]), answer(0, 3, 0, 0, "0000"));
+    assert_eq!(read(EB21, &vec![0; 2_003 * 150 + 1]), answer(0, 2, 0, 0, "0000"));
+    assert_eq!(read(EB21, &vec![0; 2_002 * 150]), answer(0, 4, 0, 1, "0081"));
+    assert_eq!(read(EB13, &vec![0; 2_003 * 120]), answer(0, 3, 0, 0, "0000"));
+    assert_eq!(read(EB13, &vec![0; 2_002 * 120]), answer(0, 4, 0, 1, "0081"));
     assert_eq!(accepted().five(), [0, 0, 0, 0, 0x3030_3030]);
     assert_eq!(answer(2, 4, 7, 4, "A011").five(), [2, 4, 7, 4, 0x4130_3131]);
     let (request, result) = debits(&[(500, "0")], &[]);
@@ -1139,7 +1151,7 @@ fn a53_a54_a55_the_program() {
     assert_eq!(posted(&request, &[]), "refused 2 2 0 0 0000\n");
     let none = debits(&[], &[]);
     assert_eq!(posted(&none.0, &none.1), "accepted 0 0 0 0\n");
-    // A full file is posted.
+    // What the program has room for is posted.
     let asks = vec![(23_255_813_953, "0"); 430];
     let full = debits(&asks, &[]);
     assert_eq!(full.0.len(), 64_800);
@@ -1148,6 +1160,45 @@ fn a53_a54_a55_the_program() {
         text.starts_with("accepted 430 9999999999790 9999999999790 0\n1 whole 23255813953 0 ---- ----\n")
     );
     assert_eq!(text.lines().count(), 431);
+}
+
+/// Files that the program has no room for, though the reader takes them: 3 on their side, request first, before all else.
+#[test]
+fn q12b_the_program_keeps_its_room() {
+    let good = debits(&[(500, "0")], &[]);
+    for n in [431, 433, 2_000] {
+        let asks = vec![(1_000, "0"); n];
+        let results: Vec<_> = (1..=n).map(|k| (k, 1_000, "N0021")).collect();
+        let (request, result) = debits(&asks, &results);
+        assert_eq!((request.len(), result.len()), ((n + 2) * 150, (n + 2) * 150));
+        assert_eq!([read(EB21, &request), read(EB22, &result)], [accepted(); 2]);
+        assert_eq!(paired(EB21, &request, &result).0, accepted());
+        let (one, other) = ("refused 1 3 0 0 0000\n", "refused 2 3 0 0 0000\n");
+        assert_eq!(posted(&request, &result), one);
+        assert_eq!(posted(&request, &good.1), one);
+        assert_eq!(posted(&request, &[]), one, "before the result is missing");
+        assert_eq!(posted(&request, &debits(&asks, &[]).1), one);
+        assert_eq!(posted(&good.0, &result), other);
+        assert_eq!(posted(&[], &result), other, "before the request is missing");
+        assert_eq!(posted(&good.1, &result), other, "before the request is of another kind");
+        assert_eq!(posted(&good.0[1..], &result), other, "before the request is cut");
+        let same_day = debits_in(["EC21", "EC22"], &asks, &results);
+        assert_eq!(posted(&same_day.0, &same_day.1), one, "before its name");
+    }
+    // By the bytes alone, whatever they are.
+    let most = debits(&vec![(1_000, "0"); 430], &[]);
+    assert_eq!(most.0.len(), 64_800);
+    assert!(
+        posted(&most.0, &most.1).starts_with("accepted 430 430000 430000 0\n1 whole 1000 0 ---- ----\n")
+    );
+    let longer = [&most.0[..], b" "].concat();
+    assert_eq!(read(EB21, &longer), answer(0, 2, 0, 0, "0000"));
+    assert_eq!(posted(&longer, &most.1), "refused 1 3 0 0 0000\n");
+    assert_eq!(posted(&most.0, &longer), "refused 2 3 0 0 0000\n");
+    for size in [64_801, 64_950, 65_250, 300_300, 300_450] {
+        assert_eq!(posted(&most.0, &vec![b'H'; size]), "refused 2 3 0 0 0000\n");
+        assert_eq!(posted(&vec![b'H'; size], b""), "refused 1 3 0 0 0000\n");
+    }
 }
 
 #[test]
@@ -1239,7 +1290,7 @@ fn q3a_item_10_counts_failures_by_the_centre() {
         let bodies: Vec<_> = (0..n).map(|k| debit(500, "0", &format!("P{k}"), "N9999")).collect();
         file("EB22", &bodies)
     };
-    for n in [0, 1, 9, 10, 11, 99, 100, 429, 430] {
+    for n in [0, 1, 9, 10, 11, 99, 100, 430, 999, 1_000, 1_999, 2_000] {
         assert_eq!(with_item_10(&many(n), n), accepted());
         for number in [n + 1, n.max(1) - 1, n + 10, n + 10_000_000] {
             let wanted = if number == n { accepted() } else { answer(0, 6, n + 1, 10, "0000") };
@@ -1816,7 +1867,8 @@ impl Run {
         if number == EB21 {
             self.check_post(&request, &result, &full, n);
         }
-        if number == EC21 && full.0.is_accepted() {
+        // A longer one is told its length.
+        if number == EC21 && full.0.is_accepted() && request.len() <= 64_800 {
             assert_eq!(posted(&request, &result), "refused 1 5 0 4 0000\n");
             self.seen.same_day_not_posted += 1;
         }
@@ -2013,7 +2065,7 @@ fn good_drafts_are_good() {
     let mut rng = Rng::new(11);
     for round in 0..600 {
         for pair in PairKind::ALL {
-            let n = if round < 3 { 430 } else { rng.index(12) };
+            let n = if round < 3 { 2_000 } else { rng.index(12) };
             let request = gen::request_of(&mut rng, pair.request(), n);
             assert_eq!(read(pair.request().number(), &request.file()), accepted());
             let result = gen::result_of(&mut rng, &request, true);

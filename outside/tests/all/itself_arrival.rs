@@ -10,14 +10,14 @@ use outside::{end_at, part_at, read, settings, Answer, Arrival};
 
 const KINDS: [&str; 6] = ["EB13", "EB14", "EB21", "EB22", "EC21", "EC22"];
 const ENDED: u64 = u64::MAX;
-const LONGEST: usize = 64_800;
+const LONGEST: usize = 300_300;
 
 /// A number that has no place.
 fn alone(number: u64) -> Answer {
     answer(0, number, 0, 0, "0000")
 }
 
-/// A file of so many data records, good but for what 431 are told.
+/// A file of so many data records, good but for what 2,001 are told.
 fn many(kind: &str, n: usize) -> Vec<u8> {
     let result = if matches!(kind, "EB14" | "EB22" | "EC22") { "N0021" } else { "" };
     let body = |k: usize| match length(kind) {
@@ -84,8 +84,8 @@ fn q6b_every_cutting() {
 /// A part says the same of every file: what is wrong shows at the end only.
 #[test]
 fn q6c_nothing_is_announced_before_the_end() {
-    for part in [&b""[..], b"X", &[0; 150], &[b' '; 64_950], &[b' '; 200_000]] {
-        for room in [0, 1, LONGEST, 300_000] {
+    for part in [&b""[..], b"X", &[0; 150], &[b' '; 64_950], &vec![b' '; 300_450], &vec![b' '; 900_000]] {
+        for room in [0, 1, LONGEST, 400_000] {
             let mut arrival = arriving(&[part, part, b"T"], room);
             assert_eq!(arrival.part(part), 10);
         }
@@ -139,19 +139,24 @@ fn q6f_a_short_room() {
     for kind in KINDS {
         let good = sample(kind);
         let broken = put(kind, &good, 0, 0, b"X");
+        let [most, more] = [2_000, 2_001].map(|n| many(kind, n));
         for room in [0, 1, good.len() - 1] {
             assert_eq!(told(kind, &[&good], room), alone(8));
             assert_eq!(told(kind, &[&broken], room), alone(8));
             assert_eq!(told("EB12", &[&good], room), alone(1));
             assert_eq!(told(kind, &[&good, b" "], room), alone(2));
-            assert_eq!(told(kind, &[&many(kind, 431)], room), alone(3));
+            assert_eq!(told(kind, &[&many(kind, 431)], room), alone(8));
+            assert_eq!(told(kind, &[&most], room), alone(8));
+            assert_eq!(told(kind, &[&more], room), alone(3));
             let arrival = arriving(&[&good], room);
             assert_eq!(arrival.state(), [room as u64, (good.len() - room) as u64]);
             assert_eq!(arrival.room(), good[..room]);
         }
         assert_eq!(told(kind, &[&good], good.len()), accepted());
         assert_eq!(told(kind, &[&broken], good.len()), answer(0, 4, 0, 1, "0081"));
-        assert_eq!(told(kind, &[&many(kind, 430)], LONGEST), accepted());
+        assert_eq!(told(kind, &[&many(kind, 431)], LONGEST), accepted());
+        assert_eq!(told(kind, &[&most], LONGEST), accepted());
+        assert_eq!(told(kind, &[&most], most.len() - 1), alone(8));
         // The room holds a good file, and more came.
         let whole = file(kind, &[]);
         assert_eq!(told(kind, &[&whole, &whole[..length(kind)]], whole.len()), alone(8));
@@ -164,12 +169,16 @@ fn q6g_over_the_limit() {
     for (kind, whole, parted) in [
         (
             "EB13",
-            &[51_960, 64_800, 64_920, 65_400, 66_000, 120_000, 1_200_000][..],
-            &[51_841, 64_799, 64_950][..],
+            &[240_360, 300_000, 300_360, 300_600, 301_200, 480_000, 1_200_000][..],
+            &[240_241, 300_299, 300_450][..],
         ),
-        ("EB21", &[64_950, 65_400, 65_550, 66_000, 150_000, 1_500_000][..], &[64_801, 64_920, 65_399][..]),
+        (
+            "EB21",
+            &[300_450, 300_600, 300_750, 301_200, 450_000, 1_500_000][..],
+            &[300_301, 300_360, 300_599][..],
+        ),
     ] {
-        for room in [0, 300, LONGEST, 100_000] {
+        for room in [0, 300, LONGEST, 400_000] {
             for &bytes in whole {
                 assert_eq!(told(kind, &[&vec![b' '; bytes]], room), alone(3), "{bytes} in {room}");
                 assert_eq!(told(kind, &[&vec![b' '; bytes], b" "], room), alone(2));
@@ -178,23 +187,25 @@ fn q6g_over_the_limit() {
                 assert_eq!(told(kind, &[&vec![b' '; bytes]], room), alone(2), "{bytes} in {room}");
             }
         }
-        assert_eq!(told(kind, &[&many(kind, 431)], LONGEST), alone(3));
+        assert_eq!(told(kind, &[&many(kind, 2_001)], LONGEST), alone(3));
     }
 }
 
-/// What the second number of a state is: so many bytes came past the room, from 65,400 on only what is left over of 600.
+/// What the second number of a state is: so many bytes came past the room, from 300,600 on only what is left over of 600.
 #[test]
 fn q6h_what_came_past_the_room() {
     for (bytes, past) in [
         (0, 0),
         (1, 1),
-        (65_399, 65_399),
         (65_400, 65_400),
-        (65_999, 65_999),
-        (66_000, 65_400),
-        (66_001, 65_401),
-        (131_400, 65_400),
-        (1_000_000, 65_800),
+        (66_000, 66_000),
+        (300_599, 300_599),
+        (300_600, 300_600),
+        (301_199, 301_199),
+        (301_200, 300_600),
+        (301_201, 300_601),
+        (601_800, 300_600),
+        (1_000_000, 301_000),
     ] {
         assert_eq!(arriving(&[&vec![b' '; bytes]], 0).state(), [0, past]);
         assert_eq!(arriving(&[&vec![b' '; bytes + 1_000]], 1_000).state(), [1_000, past]);
@@ -209,13 +220,13 @@ fn q6i_any_state() {
     let eb21 = number("EB21");
     // 2^64 is 16 more than a multiple of 600.
     for (state, bytes, after) in [
-        ([0, 65_999], 1, [0, 65_400]),
-        ([0, 66_000], 0, [0, 65_400]),
-        ([0, u64::MAX - 1], 0, [0, 65_414]),
-        ([0, u64::MAX - 1], 1, [0, 65_415]),
-        ([0, u64::MAX - 1], 136, [0, 65_550]),
+        ([0, 301_199], 1, [0, 300_600]),
+        ([0, 301_200], 0, [0, 300_600]),
+        ([0, u64::MAX - 1], 0, [0, 300_614]),
+        ([0, u64::MAX - 1], 1, [0, 300_615]),
+        ([0, u64::MAX - 1], 136, [0, 300_750]),
         ([u64::MAX, 0], 5, [u64::MAX, 5]),
-        ([u64::MAX, 65_395], 5, [u64::MAX, 65_400]),
+        ([u64::MAX, 300_595], 5, [u64::MAX, 300_600]),
         ([7, ENDED], 5, [7, ENDED]),
     ] {
         let returned = if state[1] == ENDED { 9 } else { 10 };
@@ -235,8 +246,9 @@ fn q6i_any_state() {
         ([750, 150], alone(8)),
         ([0, 750], alone(8)),
         ([750, 1], alone(2)),
-        ([750, 64_050], alone(8)),
-        ([750, 64_200], alone(3)),
+        ([750, 64_200], alone(8)),
+        ([750, 299_550], alone(8)),
+        ([750, 299_700], alone(3)),
         ([u64::MAX, 135], alone(3)),
         ([u64::MAX, 0], alone(2)),
         ([u64::MAX - 615, 0], alone(3)),
@@ -258,15 +270,16 @@ fn a_fault_on_the_way_is_noticed() {
         for first in (1..good.len() - 1).step_by(7) {
             for second in (first + 1..good.len()).step_by(13) {
                 let [a, b, c] = [&good[..first], &good[first..second], &good[second..]];
-                assert_eq!(told(kind, &[a, b, c], LONGEST), accepted());
+                let room = 2 * good.len();
+                assert_eq!(told(kind, &[a, b, c], room), accepted());
                 let mut changed = b.to_vec();
                 changed[0] = 0x01;
                 for parts in [&[a, c][..], &[a, b], &[b, c], &[a, b, b, c], &[a, &changed, c]] {
-                    assert_ne!(told(kind, parts, LONGEST), accepted());
+                    assert_ne!(told(kind, parts, room), accepted());
                 }
                 // Free text may be exchanged and stay free text.
                 let swapped = [a, c, b].concat();
-                assert_eq!(told(kind, &[a, c, b], LONGEST), read(number(kind), &swapped));
+                assert_eq!(told(kind, &[a, c, b], room), read(number(kind), &swapped));
             }
         }
     }
@@ -329,13 +342,14 @@ fn both_ways_are_one() {
 fn folding_changes_no_answer() {
     for kind in ["EB13", "EB21"] {
         for room in [0, 1, 599, 600, 30_000, LONGEST] {
-            let lengths = (0..1_300).chain(64_000..68_000).chain(130_000..131_500);
+            let about = [240_000..241_000, 299_700..302_000, 601_000..602_500];
+            let lengths = (0..1_300).chain(about.into_iter().flatten());
             for bytes in lengths.filter(|&bytes| bytes > room) {
                 let (_, state) = part_at([0, 0], &mut vec![0; room], &vec![0; bytes]);
                 let size = length(kind);
                 let expected = match (bytes % size, bytes / size) {
-                    (0, 2..=432) => 8,
-                    (0, 433..) => 3,
+                    (0, 2..=2_002) => 8,
+                    (0, 2_003..) => 3,
                     _ => 2,
                 };
                 let told = end_at(number(kind), state, &vec![0; room]).0;

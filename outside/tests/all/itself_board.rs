@@ -140,12 +140,16 @@ fn q8a_the_order() {
 /// As cms_pair answers where its lists are long enough; they are never short here.
 #[test]
 fn q8a_never_8() {
-    let many: Vec<Vec<u8>> = (1..=430).map(|k| asked(140, &format!("P{k}"), "")).collect();
-    let board: Vec<Member> = (1..=430).map(|k| member(&format!("P{k}"), 140, 0)).collect();
-    let after: Vec<Member> = (1..=430).map(|k| member(&format!("P{k}"), 0, 1)).collect();
-    assert_eq!(posted("EB21", &next_day(&many, &[]), &board, &AT_FIRST), (accepted(), after, NEXT_DAY));
-    let more: Vec<Vec<u8>> = (1..=431).map(|k| asked(140, &format!("P{k}"), "")).collect();
-    refuses("EB21", &next_day(&more, &[]), &board, &AT_FIRST, answer(1, 3, 0, 0, "0000"));
+    let asked = |n: u64| (1..=n).map(|k| asked(140, &format!("P{k}"), "")).collect::<Vec<_>>();
+    let members = |owed: u64, state: u64| move |k: u64| member(&format!("P{k}"), owed, state);
+    for n in [430, 431, 1_999, 2_000] {
+        let board: Vec<Member> = (1..=n).map(members(140, 0)).collect();
+        let after: Vec<Member> = (1..=n).map(members(0, 1)).collect();
+        let files = next_day(&asked(n), &[]);
+        assert_eq!(posted("EB21", &files, &board, &AT_FIRST), (accepted(), after, NEXT_DAY));
+    }
+    let board: Vec<Member> = (1..=2_001).map(members(140, 0)).collect();
+    refuses("EB21", &next_day(&asked(2_001), &[]), &board, &AT_FIRST, answer(1, 3, 0, 0, "0000"));
     refuses("EB21", &[sample("EB21"), vec![]], &[], &AT_FIRST, answer(2, 2, 0, 0, "0000"));
 }
 

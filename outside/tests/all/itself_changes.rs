@@ -1,5 +1,5 @@
 //! The reference against the rules of members who change banks: the places where two careful readers of them could differ
-//! (q9a to q9k), worked out by hand, and properties over generated files.
+//! (q9a to q9k, q12a), worked out by hand, and properties over generated files.
 //!
 //! `OUTSIDE_SEED` and `OUTSIDE_COUNT` choose the generated files.
 
@@ -238,6 +238,31 @@ fn q9k_an_eb12_is_read_by_nothing() {
     assert_eq!(day_read(&day).0.inner, answer(0, 1, 0, 0, "0000"));
 }
 
+/// 2,000 records, all of them halves of a change; what was one too many is not any more, and the 2,001st is.
+#[test]
+fn q12a_the_2001st_record() {
+    let payers: Vec<&'static str> = (1..=1_000).map(|k| &*format!("P{k}").leak()).collect();
+    let given_up = payers.iter().map(|payer| half("3", payer, "111"));
+    let taken = payers.iter().map(|payer| half("1", payer, "112"));
+    let mut records: Vec<Asked> = given_up.chain(taken).collect();
+    assert_eq!(written(&records, &[YES; 2_000]).len(), 240);
+    assert_eq!(written(&records, &[A016; 2_000]).len(), 240_240);
+    let mut answers = [YES; 2_000];
+    answers[1_999] = A013;
+    refuses(&records, &answers, 52, 1_000, 10);
+    answers[999] = A017;
+    assert_eq!(written(&records, &answers).len(), 480);
+    refuses(&records, &[YES; 1_999], 51, 0, 0);
+    refuses(&records, &[YES; 2_001], 51, 0, 0);
+    assert_eq!(told(&records, &[A013; 2_000], 240_239).0, answer(0, 8, 0, 0, "0000"));
+    let some: Vec<Asked> = payers[..431].iter().map(|payer| single("7", payer)).collect();
+    assert_eq!(written(&some, &[A019; 431]).len(), 433 * 120);
+    records.push(single("7", "Z"));
+    refuses(&records, &[YES; 2_001], 3, 0, 0);
+    assert_eq!(read(number(EB11), &eb11(&records)), answer(0, 3, 0, 0, "0000"));
+    assert_eq!(read(number(EB11), &eb11(&records[..2_000])), accepted());
+}
+
 // --------------------------------------------------------------- properties
 
 #[derive(Debug, Default)]
@@ -288,7 +313,7 @@ fn generated_files_are_answered() {
         {
             assert!(times > 100, "{seen:?}");
         }
-        assert!(seen.changes > 1_000 && seen.longest == 430, "{seen:?}");
+        assert!(seen.changes > 1_000 && seen.longest == 2_000, "{seen:?}");
     }
 }
 

@@ -1,8 +1,10 @@
 //! The reference against the rules of day files: the places where two careful readers of them could differ (q2a to q2j, q3c
-//! of item 10, and q4f of same-day debits), every byte of the contents, every number that a body can be refused with, counts, cuts and round trips.
+//! of item 10, q4f of same-day debits, and q12a to q12e of many records and form "2"), every byte of the contents, every
+//! number that a body can be refused with, counts, cuts and round trips, in both forms.
 
 use super::itself::{answer, debit, enrolment, file, length, number, put as put_in, sample};
 use outside::{day_body, day_read, day_write, eight_of_day, read, ten_of_body, Answer, DayAnswer, DayBody};
+use std::path::{Path, PathBuf};
 
 // ------------------------------------------------------------------- builders
 // Written with Rust's padding, without any help from the crate.
@@ -29,6 +31,27 @@ fn empty(name: &str) -> Body {
     named(name, &file(&name[..4], &[]))
 }
 
+/// A good body of so many data records.
+fn of_records(name: &str, n: usize) -> Body {
+    let result = if name[..4].ends_with(['4']) || name[..4].ends_with("22") { "N0021" } else { "" };
+    let record = |k: usize| match &name[..3] {
+        "EB1" => enrolment("1", &format!("P{k}"), result),
+        _ => debit(1_000, "0", &format!("P{k}"), result),
+    };
+    let records: Vec<Vec<u8>> = (1..=n).map(record).collect();
+    named(name, &file(&name[..4], &records))
+}
+
+/// The longest bodies that five digits can say, 99,900 and 99,960 bytes, and one record more: 100,050 and 100,080.
+const UNDER: [(&str, usize); 6] =
+    [("EB13", 831), ("EB14", 831), ("EB21", 664), ("EB22", 664), ("EC21", 664), ("EC22", 664)];
+
+/// A body that five digits can't say.
+fn long(name: &str) -> Body {
+    let (_, records) = UNDER.into_iter().find(|(kind, _)| name.starts_with(kind)).expect("a kind");
+    of_records(name, records + 1)
+}
+
 /// This many small good bodies of one kind.
 fn many(n: usize) -> Vec<Body> {
     (1..=n).map(|k| empty(&format!("EB21{:04}", 1_200 + k))).collect()
@@ -43,16 +66,26 @@ fn six() -> Vec<Body> {
     [four(), vec![body("EC210315"), body("EC220315")]].concat()
 }
 
+/// In form "1", and in form "2" where a body is longer than five digits can say.
 fn day(bodies: &[Body]) -> Vec<u8> {
-    let mut day = format!("1{:02}", bodies.len());
+    if bodies.iter().any(|(_, file)| file.len() > 99_999) {
+        in_form('2', 6, bodies)
+    } else {
+        in_form('1', 5, bodies)
+    }
+}
+
+/// With this form byte and lengths of so many digits, of which they are the last.
+fn in_form(form: char, digits: usize, bodies: &[Body]) -> Vec<u8> {
+    let mut day = format!("{form}{:02}", bodies.len());
     for (name, file) in bodies {
-        day += &format!("{name:8}{:05}", file.len());
+        day += &format!("{name:8}{:0digits$}", file.len() % 10_usize.pow(digits as u32));
     }
     [day.into_bytes(), joined(bodies)].concat()
 }
 
 fn joined(bodies: &[Body]) -> Vec<u8> {
-    bodies.iter().flat_map(|(_, file)| file.clone()).collect()
+    bodies.iter().map(|(_, file)| &file[..]).collect::<Vec<_>>().concat()
 }
 
 fn names(bodies: &[Body]) -> Vec<u8> {
@@ -192,7 +225,7 @@ fn q2c_contents_and_total_length() {
     assert_eq!(told(b"1000"), alone(31));
     assert_eq!(told(b"100\0"), alone(31));
     assert_eq!(told(b"100100"), alone(31));
-    // A length of one more or less, and of all that five digits say.
+    // A length of one more or less, and all that five digits can say.
     for length in ["00599", "00601", "00000", "99999"] {
         assert_eq!(told(&put(&good, 11, length.as_bytes())), alone(31), "{length}");
     }
@@ -283,8 +316,8 @@ fn q2f_the_writers_30() {
     let seventeen = many(17);
     let told = written(&self::names(&seventeen), &self::lengths(&seventeen), &self::joined(&seventeen), 0);
     assert_eq!(told, (alone(30), 0, vec![]));
-    // A length that five digits cannot say; before 31 and 33, and with bytes that are there.
-    for length in [100_000, 100_001, 1 << 16 << 16, 1 << 63, u64::MAX - 1, u64::MAX] {
+    // A length that the digits of no form can say; before 31 and 33, and with bytes that are there.
+    for length in [1_000_000, 1_000_001, 1 << 16 << 16, 1 << 63, u64::MAX - 1, u64::MAX] {
         for at in 0..4 {
             let mut long = lengths.clone();
             long[at] = length;
@@ -293,10 +326,11 @@ fn q2f_the_writers_30() {
         }
         assert_eq!(write_told(b"EB210315", &[length], b""), alone(30));
     }
-    assert_eq!(write_told(b"EB210315", &[100_000], &[b' '; 100_000]), alone(30));
+    assert_eq!(write_told(b"EB210315", &[1_000_000], &[b' '; 1_000_000]), alone(30));
+    let no_mark = refused(1, answer(0, 4, 0, 1, "0081"));
     assert_eq!(write_told(b"EB210315", &[99_999], &[b' '; 99_999]), refused_with(1, 2));
-    assert_eq!(write_told(b"EB210315", &[99_900], &[b' '; 99_900]), refused_with(1, 3));
-    assert_eq!(write_told(b"EB130315", &[99_960], &[b' '; 99_960]), refused_with(1, 3));
+    assert_eq!(write_told(b"EB210315", &[99_900], &[b' '; 99_900]), no_mark);
+    assert_eq!(write_told(b"EB130315", &[99_960], &[b' '; 99_960]), no_mark);
     // Sums that pass the largest number come back to the bodies' length, and are 30 all the same.
     let sum: u64 = lengths.iter().sum();
     let around = [u64::MAX, 1 + sum, 0, 0];
@@ -476,6 +510,267 @@ fn q4f_same_day_debits_go_in() {
     }
 }
 
+// ---------------------------------------------------------------- q12a to q12e
+
+/// Every kind has up to 2,000 data records, and a day up to 16 bodies, as before.
+#[test]
+fn q12a_2_000_records() {
+    for (kind, _) in UNDER {
+        let name = format!("{kind}0315");
+        for n in [430, 431, 1_999, 2_000] {
+            assert_eq!(told_by_both(&[body("EB130310"), of_records(&name, n)]), accepted(), "{kind} {n}");
+        }
+        let most = of_records(&name, 2_000).1.len();
+        assert_eq!(most, if kind.starts_with("EB1") { 240_240 } else { 300_300 });
+        assert_eq!(told_by_both(&[body("EB130310"), of_records(&name, 2_001)]), refused_with(2, 3));
+        // The limit is told before all that is wrong in the body, and behind its length.
+        let (name, mut broken) = of_records(&name, 2_001);
+        broken[0] = b'X';
+        assert_eq!(told_by_both(&[(name.clone(), broken.clone())]), refused_with(1, 3));
+        broken.pop();
+        assert_eq!(told_by_both(&[(name, broken)]), refused_with(1, 2));
+    }
+    let all: Vec<Body> = (1..=16).map(|k| of_records(&format!("EB21{:04}", 1_200 + k), 2_000)).collect();
+    assert_eq!(day(&all).len(), 3 + 16 * (14 + 300_300));
+    assert_eq!(told_by_both(&all), accepted());
+    assert_eq!(told_by_both(&[&all[..], &[empty("EB130315")]].concat()), alone(30));
+}
+
+/// One long body and all lengths have six digits; none, and all have five. Nothing else is accepted.
+#[test]
+fn q12c_form_2() {
+    let small = body("EB220315");
+    for (kind, records) in UNDER {
+        let name = format!("{kind}0310");
+        for (n, form, digits) in [(records, '1', 5), (records + 1, '2', 6), (2_000, '2', 6)] {
+            let long = of_records(&name, n);
+            for bodies in [
+                vec![long.clone()],
+                vec![long.clone(), small.clone()],
+                vec![small.clone(), long.clone()],
+                [many(15), vec![long.clone()]].concat(),
+                [vec![long.clone()], many(15)].concat(),
+            ] {
+                assert_eq!(told_by_both(&bodies), accepted());
+                let good = in_form(form, digits, &bodies);
+                assert_eq!(day(&bodies), good);
+                let written = written(&names(&bodies), &lengths(&bodies), &joined(&bodies), good.len());
+                assert!(written == (accepted(), good.len() as u64, good), "what is written");
+                for (other, of) in [('1', 5), ('1', 6), ('2', 5), ('2', 6)] {
+                    if (other, of) != (form, digits) {
+                        let number = told(&in_form(other, of, &bodies)).number;
+                        assert!([30, 31].contains(&number), "{kind} {n} {other} {of}");
+                    }
+                }
+            }
+        }
+    }
+}
+
+/// A "2" that could be a "1" is 30 with the tests of the contents, so before 31, 32 and 33.
+#[test]
+fn q12c_a_needless_2() {
+    assert_eq!(told(b"200"), alone(30));
+    assert_eq!(told(b"2000"), alone(30));
+    let under = UNDER.map(|(kind, records)| of_records(&format!("{kind}0315"), records)).to_vec();
+    let repeated = vec![body("EB130315"), body("EB130315")];
+    let broken = vec![("EI130315".to_string(), vec![b' '; 99_999])];
+    let mut days = vec![vec![], many(1), four(), six(), many(16), under, repeated, broken];
+    days.extend(samples_of_before().into_iter().filter_map(|(_, _, file)| taken_apart_if_good(&file)));
+    assert!(days.len() > 14, "samples");
+    for bodies in days {
+        let needless = in_form('2', 6, &bodies);
+        assert_eq!(day_read(&needless), (alone(30), 0));
+        assert_eq!(told(&[&needless[..], b" "].concat()), alone(30));
+        assert_eq!(told(&needless[..needless.len() - 1]), alone(30));
+        assert_eq!(day_body(&needless, 1), (alone(30), DayBody::None));
+        // What is wrong with these is told in form "1", and it is not 30.
+        assert_ne!(told(&day(&bodies)).number, 30);
+    }
+    // It is asked of the lengths that are said: a long one that is not there makes the "2" right, and the total wrong.
+    let needless = in_form('2', 6, &[body("EB130315"), body("EB210315")]);
+    assert_eq!(told(&needless), alone(30));
+    for length in ["100000", "100050", "300300", "300450", "999999"] {
+        assert_eq!(told(&put(&needless, 11, length.as_bytes())), alone(31), "{length}");
+        assert_eq!(told(&put(&needless, 25, length.as_bytes())), alone(31), "{length}");
+    }
+    assert_eq!(told(&put(&needless, 11, b"099999")), alone(30));
+    assert_eq!(told(&put(&put(&needless, 11, b"100000"), 25, b"00075 ")), alone(30));
+}
+
+/// A long body moves its bytes to others: the total stays, and the "2" is needed as long as one length is over 99,999.
+#[test]
+fn q12c_bytes_between_lengths() {
+    let bodies = [long("EB210315"), body("EB220315"), long("EB130315")];
+    let good = day(&bodies);
+    let with = |lengths: [usize; 3]| {
+        assert_eq!(lengths.iter().sum::<usize>(), joined(&bodies).len());
+        lengths.iter().enumerate().fold(good.clone(), |file, (before, length)| {
+            put(&file, 3 + 14 * before + 8, format!("{length:06}").as_bytes())
+        })
+    };
+    assert_eq!(bodies.iter().map(|(_, file)| file.len()).collect::<Vec<_>>(), [100_050, 750, 100_080]);
+    assert_eq!(told(&with([100_050, 750, 100_080])), accepted());
+    // Fewer records than before: the first body has no trailer.
+    assert_eq!(told(&with([99_900, 900, 100_080])), refused(1, answer(0, 4, 665, 1, "0081")));
+    assert_eq!(told(&with([100_050, 870, 99_960])), refused_with(2, 2));
+    assert_eq!(told(&with([99_900, 1_020, 99_960])), alone(30));
+    assert_eq!(told(&with([99_999, 882, 99_999])), alone(30));
+    assert_eq!(told(&with([99_999, 881, 100_000])), refused_with(1, 2));
+    assert_eq!(told(&with([0, 200_880, 0])), refused_with(1, 2));
+}
+
+/// What no form can say is 30; what is longer than a file may be goes on to 31, 32 and 33.
+#[test]
+fn q12c_the_writers_lengths() {
+    let bodies = four();
+    let (names, lengths, joined) = (names(&bodies), lengths(&bodies), joined(&bodies));
+    for at in 0..4 {
+        for length in [99_999, 100_000, 100_050, 300_300, 300_301, 300_450, 999_900, 999_960, 999_999] {
+            let mut other = lengths.clone();
+            other[at] = length;
+            assert_eq!(write_told(&names, &other, &joined), alone(31), "{length}");
+        }
+        for length in [1_000_000, 1_000_050, 9_999_999, 10_000_000, 1 << 32, 1 << 63, u64::MAX] {
+            let mut other = lengths.clone();
+            other[at] = length;
+            assert_eq!(write_told(&names, &other, &joined), alone(30), "{length}");
+        }
+    }
+    for (kind, length, own) in [
+        ("EB21", 300_301, 2),
+        ("EB21", 300_450, 3),
+        ("EC22", 300_450, 3),
+        ("EB13", 240_360, 3),
+        ("EB21", 999_900, 3),
+        ("EB14", 999_960, 3),
+        ("EB21", 999_999, 2),
+    ] {
+        let too_long = (format!("{kind}0315"), vec![b' '; length]);
+        let bodies = [empty("EB130310"), too_long.clone()];
+        assert_eq!(told_by_both(&bodies), refused_with(2, own), "{kind} {length}");
+        // A byte is missing; a name is there twice.
+        let (names, lengths) = (self::names(&bodies), self::lengths(&bodies));
+        assert_eq!(write_told(&names, &lengths, &self::joined(&bodies)[1..]), alone(31));
+        assert_eq!(told_by_both(&[too_long.clone(), too_long]), repeated(2));
+    }
+}
+
+/// An entry of the contents has 14 bytes.
+#[test]
+fn q12d_entries_of_form_2() {
+    let bodies = [body("EB220315"), long("EB210315"), empty("EB130316")];
+    let file = day(&bodies);
+    assert_eq!(&file[..3 + 14], b"203EB220315000750");
+    assert_eq!(&file[3 + 14..3 + 3 * 14], b"EB210315100050EB130316000240");
+    assert_eq!(day_read(&file), (accepted(), 3));
+    let mut start = 3 + 3 * 14;
+    for (before, (name, body)) in bodies.iter().enumerate() {
+        let name = name.as_bytes().try_into().unwrap();
+        let expected = DayBody::Body { name, start: start as u64, length: body.len() as u64 };
+        assert_eq!(day_body(&file, before as u64 + 1), (accepted(), expected));
+        start += body.len();
+    }
+    assert_eq!(start, file.len());
+    for body in [0, 4, 16, 17, u64::MAX] {
+        assert_eq!(day_body(&file, body), (accepted(), DayBody::NoBody));
+    }
+    // Room is short exactly when it is less than the file.
+    for room in [0, 3, file.len() - 3, file.len() - 1] {
+        let told = written(&names(&bodies), &lengths(&bodies), &joined(&bodies), room);
+        assert_eq!(told, (alone(8), 0, vec![0xEE; room]));
+    }
+}
+
+/// Where the two forms meet: no file has 100,000 bytes.
+#[test]
+fn q12e_at_the_edge_of_the_forms() {
+    for (kind, records) in UNDER {
+        let name = format!("{kind}0315");
+        let [under, over] = [records, records + 1].map(|n| of_records(&name, n));
+        let lengths = if kind.starts_with("EB1") { [99_960, 100_080] } else { [99_900, 100_050] };
+        assert_eq!([under.1.len(), over.1.len()], lengths);
+        assert_eq!((day(&[under.clone()])[0], day(&[over.clone()])[0]), (b'1', b'2'));
+        assert_eq!(told_by_both(&[under]), accepted());
+        assert_eq!(told_by_both(&[over]), accepted());
+        for (length, form) in [(99_999, b'1'), (100_000, b'2'), (100_001, b'2')] {
+            let odd = [(name.clone(), vec![b' '; length])];
+            assert_eq!(day(&odd)[0], form);
+            assert_eq!(told_by_both(&odd), refused_with(1, 2));
+        }
+    }
+}
+
+/// One list of bodies has one day file: whatever the first byte and the digits are, only that one is read as the list.
+#[test]
+fn q12c_one_day_file_for_one_list() {
+    let lists = [
+        vec![],
+        many(1),
+        four(),
+        vec![long("EB210315")],
+        vec![long("EB210315"), body("EB220315")],
+        vec![body("EB220315"), long("EB210315")],
+        vec![long("EB210315"), long("EB220315")],
+    ];
+    let mut files = std::collections::HashSet::new();
+    for bodies in &lists {
+        let mut accepted = 0;
+        for digits in 4..=7 {
+            let mut file = in_form('1', digits, bodies);
+            for form in 0..=255 {
+                file[0] = form;
+                if let Some(read) = taken_apart_if_good(&file) {
+                    // Without bodies all lengths are the same bytes, namely none.
+                    accepted += u64::from(!bodies.is_empty() || digits == 5);
+                    assert!(read == *bodies && file == day(bodies), "another list");
+                }
+            }
+        }
+        assert_eq!(accepted, 1);
+        assert!(files.insert(day(bodies)), "two lists, one file");
+    }
+}
+
+// ------------------------------------------------------------------ the samples
+
+/// The samples of day files that were there before form "2": name, line and bytes.
+fn samples_of_before() -> Vec<(String, String, Vec<u8>)> {
+    let folder = Path::new(env!("CARGO_MANIFEST_DIR")).join("samples");
+    let paths = std::fs::read_dir(folder).expect("samples").map(|entry| entry.expect("an entry").path());
+    let mut texts: Vec<PathBuf> =
+        paths.filter(|path| path.extension().is_some_and(|end| end == "txt")).collect();
+    texts.sort();
+    let sample = |path: &PathBuf| {
+        let line = std::fs::read_to_string(path).expect("a text");
+        let line = line.strip_prefix("DAY ")?.trim_end().to_string();
+        let bytes = std::fs::read(path.with_extension("file")).expect("its file");
+        Some((path.file_stem().unwrap().to_string_lossy().into_owned(), line, bytes))
+    };
+    texts.iter().filter_map(sample).filter(|(name, ..)| !name.starts_with("day-form-")).collect()
+}
+
+/// What was a day file before form "2" came is one still, and is told what it was told; it is in form "1" throughout.
+#[test]
+fn q12c_the_samples_of_before_are_read() {
+    let (mut accepted, mut refused) = (0, 0);
+    for (name, line, file) in samples_of_before() {
+        let (told, n) = day_read(&file);
+        let [number, body, side, inner, record, item, code, _] = eight_of_day(&told, n);
+        if number == 0 {
+            accepted += 1;
+            assert_eq!((file[0], line.matches('@').count() as u64), (b'1', n), "{name}");
+            assert!(line.starts_with("accepted"), "{name}");
+            continue;
+        }
+        refused += 1;
+        let code = String::from_utf8((code as u32).to_be_bytes().to_vec()).unwrap();
+        let said = format!("refused {number} {body} {side} {inner} {record} {item} {code}");
+        assert_eq!(said, line, "{name}");
+    }
+    assert!(accepted >= 8 && refused >= 20, "{accepted} {refused}");
+}
+
 // --------------------------------------------------------- counts and numbers
 
 #[test]
@@ -500,11 +795,12 @@ fn every_number_of_bodies() {
 /// At every place, a body of each number that a body can be refused with.
 #[test]
 fn a_body_of_each_refusal() {
-    let long: Vec<Vec<u8>> = (0..431).map(|k| debit(1_000, "0", &format!("P{k}"), "")).collect();
+    let long: Vec<Vec<u8>> = (0..2_001).map(|k| debit(1_000, "0", &format!("P{k}"), "")).collect();
     let of = |kind: &str, number: u64| {
         let good = file(kind, &[debit(10_000, "0", "A", ""), debit(20_000, "2", "B", "")]);
         match number {
             2 => (good[1..].to_vec(), answer(0, 2, 0, 0, "0000")),
+            // So the file is in form "2".
             3 => (file(kind, &long), answer(0, 3, 0, 0, "0000")),
             4 => (put_in(kind, &good, 1, 115, b"\x01"), answer(0, 4, 1, 12, "0088")),
             5 => (put_in(kind, &good, 2, 9, b"9999999999"), answer(0, 5, 2, 3, "0000")),
@@ -542,18 +838,31 @@ fn a_body_of_each_refusal() {
 fn every_byte_of_the_contents() {
     let bodies = [body("EB130315"), body("EB210315"), body("EB130316"), body("EC220315")];
     let good = day(&bodies);
+    every_byte_of_contents(&good, 13, None);
+    // The same with a long body in front, and last.
+    for at in [0, 3] {
+        let mut bodies = bodies.clone();
+        bodies[at] = long(&bodies[at].0);
+        every_byte_of_contents(&day(&bodies), 14, Some(3 + 14 * at + 8));
+    }
+}
+
+/// `needed` is the place of the one digit without which no length is over 99,999, where there is one.
+fn every_byte_of_contents(good: &[u8], entry: usize, needed: Option<usize>) {
     let known: [&[u8]; 6] = [b"EB13", b"EB14", b"EB21", b"EB22", b"EC21", b"EC22"];
-    for at in 0..3 + 4 * 13 {
+    for at in 0..3 + 4 * entry {
         for byte in (0..=255).filter(|byte| *byte != good[at]) {
-            let told = told(&put(&good, at, &[byte]));
+            let told = told(&put(good, at, &[byte]));
             let digit = byte.is_ascii_digit();
             match at {
+                0 if byte == b'1' => assert_eq!(told, alone(31)),
                 0 => assert_eq!(told, alone(30)),
                 1 | 2 if digit => assert!([30, 31].contains(&told.number), "{at} {byte}"),
                 1 | 2 => assert_eq!(told, alone(30)),
-                _ if (at - 3) % 13 >= 8 => assert_eq!(told, alone(if digit { 31 } else { 30 })),
+                _ if Some(at) == needed && byte == b'0' => assert_eq!(told, alone(30)),
+                _ if (at - 3) % entry >= 8 => assert_eq!(told, alone(if digit { 31 } else { 30 })),
                 _ => {
-                    let (which, place) = ((at as u64 - 3) / 13 + 1, (at - 3) % 13);
+                    let (which, place) = (((at - 3) / entry) as u64 + 1, (at - 3) % entry);
                     let mut name = good[at - place..at - place + 8].to_vec();
                     name[place] = byte;
                     let wanted = match &name[..] {
@@ -587,9 +896,11 @@ fn every_byte_of_the_bodies() {
 
 #[test]
 fn every_beginning_of_a_file() {
-    for bodies in [four(), six(), many(16), many(1), vec![]] {
+    let in_form_1 = [four(), six(), many(16), many(1), vec![]].map(|bodies| (bodies, 13));
+    let in_form_2 = [vec![long("EB210315"), body("EB220315")], vec![empty("EB130315"), long("EB140315")]];
+    for (bodies, entry) in in_form_1.into_iter().chain(in_form_2.map(|bodies| (bodies, 14))) {
         let file = day(&bodies);
-        let start = 3 + 13 * bodies.len();
+        let start = 3 + entry * bodies.len();
         for end in 0..file.len() {
             let wanted = if end < start { 30 } else { 31 };
             assert_eq!(day_read(&file[..end]), (alone(wanted), 0), "{end}");
@@ -659,12 +970,19 @@ fn taken_apart(file: &[u8]) -> Vec<Body> {
     asked.collect()
 }
 
+/// The same where it is accepted.
+fn taken_apart_if_good(file: &[u8]) -> Option<Vec<Body>> {
+    told(file).is_accepted().then(|| taken_apart(file))
+}
+
 #[test]
 fn both_round_trips() {
     let two = vec![body("EB220315"), empty("EB220316")];
-    for bodies in [vec![], many(1), four(), six(), many(15), many(16), two] {
+    let long_first = [vec![long("EB210315"), body("EB220315")], many(14)].concat();
+    let all_long = vec![long("EB130315"), long("EC220315"), long("EB130316")];
+    for bodies in [vec![], many(1), four(), six(), many(15), many(16), two, long_first, all_long] {
         // Written, then read: what was given.
-        let room = 3 + bodies.len() * 13 + joined(&bodies).len();
+        let room = day(&bodies).len();
         let (told, length, file) = written(&names(&bodies), &lengths(&bodies), &joined(&bodies), room);
         assert_eq!((told, length), (accepted(), room as u64));
         assert_eq!(taken_apart(&file), bodies);

@@ -11,22 +11,28 @@ use outside::{day_body, day_read, day_write, read, settings, Answer, DayAnswer, 
 /// What was seen besides the coverage list.
 #[derive(Default, Debug)]
 struct Seen {
-    accepted_files: u64,
-    accepted_writes: u64,
-    largest_file: usize,
+    /// In each form, as are all others of which there are two.
+    accepted_files: [u64; 2],
+    accepted_writes: [u64; 2],
+    largest_file: [usize; 2],
     /// Every cause of 30 in reading, then in writing.
     form: u64,
-    count: u64,
-    cut: u64,
-    length_no_digits: u64,
+    count: [u64; 2],
+    cut: [u64; 2],
+    length_no_digits: [u64; 2],
+    /// A "2" that could be a "1", by itself and where the lengths are right.
+    needless: u64,
+    needless_alone: u64,
     names_not_whole: u64,
     too_many_names: u64,
     lengths_for_others: u64,
-    length_over_five_digits: u64,
+    length_over_six_digits: u64,
     sum_past_the_largest: u64,
     /// Both of 31.
-    shorter: u64,
-    longer: u64,
+    shorter: [u64; 2],
+    longer: [u64; 2],
+    /// What is longer than a file may be, and not longer than six digits can say.
+    over_the_limit: u64,
     /// Number 5 at the header's item 4 of a body that its reader accepts.
     another_name: u64,
     several_refused: u64,
@@ -55,23 +61,50 @@ fn generated_inputs() {
     }
     if count >= 100_000 {
         let seen = &run.seen;
-        for times in [
-            seen.form,
+        let in_each = [
+            seen.accepted_files,
+            seen.accepted_writes,
             seen.count,
             seen.cut,
             seen.length_no_digits,
+            seen.shorter,
+            seen.longer,
+        ];
+        let others = [
+            seen.form,
+            seen.needless,
+            seen.needless_alone,
             seen.names_not_whole,
             seen.too_many_names,
             seen.lengths_for_others,
-            seen.length_over_five_digits,
+            seen.length_over_six_digits,
             seen.sum_past_the_largest,
-            seen.shorter,
-            seen.longer,
+            seen.over_the_limit,
             seen.another_name,
             seen.several_refused,
-        ] {
-            assert!(times > 0, "{seen:?}");
-        }
+        ];
+        assert!(in_each.concat().iter().chain(&others).all(|times| *times > 0), "{seen:?}");
+    }
+}
+
+/// Where a form stands in what is counted of each, and how long an entry of its contents is.
+type FormAndEntry = (usize, usize);
+
+/// None: there is no such form.
+fn form_said(file: &[u8]) -> Option<FormAndEntry> {
+    match file.first()? {
+        b'1' => Some((0, 8 + 5)),
+        b'2' => Some((1, 8 + 6)),
+        _ => None,
+    }
+}
+
+/// The form for these lengths, where all of them can be said.
+fn form_for(lengths: &[u64]) -> FormAndEntry {
+    if lengths.iter().any(|&length| length > 99_999) {
+        (1, 8 + 6)
+    } else {
+        (0, 8 + 5)
     }
 }
 
@@ -118,17 +151,19 @@ impl Run {
         let file = gen::any_day(&mut self.rng);
         let (told, n) = day_read(&file);
         assert_eq!(told, self.expected(&file));
-        self.counters[0].note_bodies(DayOperation::Read, &told, n, refused_in(&file, &told));
+        self.counters[0].note_reading(&file, &told, n, refused_in(&file, &told));
         self.check_places(&file, &told, n);
         if !told.is_accepted() {
             assert_eq!(n, 0);
             return;
         }
-        self.seen.accepted_files += 1;
-        self.seen.largest_file = self.seen.largest_file.max(file.len());
+        let (form, entry) = form_said(&file).expect("a form");
+        self.seen.accepted_files[form] += 1;
+        self.seen.largest_file[form] = self.seen.largest_file[form].max(file.len());
         let bodies = taken_apart(&file, n);
         check_rewriting(&file, &bodies);
-        self.check_changed(&file, n as usize);
+        check_other_forms(&file);
+        self.check_changed(&file, 3 + entry * n as usize);
     }
 
     /// The rules again, each number by itself, and what caused it.
@@ -138,30 +173,33 @@ impl Run {
             *cause += 1;
             DayAnswer::alone(number)
         };
-        if file.first() != Some(&b'1') {
+        let Some((form, entry)) = form_said(file) else {
             return refused(&mut seen.form, 30);
-        }
+        };
         let Some(count) = file.get(1..3).and_then(parsed).filter(|count| *count <= 16) else {
-            return refused(&mut seen.count, 30);
+            return refused(&mut seen.count[form], 30);
         };
-        if file.len() < 3 + 13 * count {
-            return refused(&mut seen.cut, 30);
+        if file.len() < 3 + entry * count {
+            return refused(&mut seen.cut[form], 30);
         }
-        let lengths: Option<Vec<usize>> =
-            (0..count).map(|k| parsed(&file[3 + 13 * k + 8..3 + 13 * k + 13])).collect();
+        let at = |k: usize| 3 + entry * k;
+        let lengths: Option<Vec<usize>> = (0..count).map(|k| parsed(&file[at(k) + 8..at(k + 1)])).collect();
         let Some(lengths) = lengths else {
-            return refused(&mut seen.length_no_digits, 30);
+            return refused(&mut seen.length_no_digits[form], 30);
         };
-        let total = 3 + 13 * count + lengths.iter().sum::<usize>();
+        let total = at(count) + lengths.iter().sum::<usize>();
+        if form == 1 && lengths.iter().all(|length| *length <= 99_999) {
+            seen.needless_alone += u64::from(total == file.len());
+            return refused(&mut seen.needless, 30);
+        }
         match total.cmp(&file.len()) {
-            std::cmp::Ordering::Less => return refused(&mut seen.longer, 31),
-            std::cmp::Ordering::Greater => return refused(&mut seen.shorter, 31),
+            std::cmp::Ordering::Less => return refused(&mut seen.longer[form], 31),
+            std::cmp::Ordering::Greater => return refused(&mut seen.shorter[form], 31),
             std::cmp::Ordering::Equal => {}
         }
-        let start = |k: usize| 3 + 13 * count + lengths[..k].iter().sum::<usize>();
-        let bodies: Vec<(&[u8], &[u8])> = (0..count)
-            .map(|k| (&file[3 + 13 * k..3 + 13 * k + 8], &file[start(k)..start(k) + lengths[k]]))
-            .collect();
+        let start = |k: usize| at(count) + lengths[..k].iter().sum::<usize>();
+        let bodies: Vec<(&[u8], &[u8])> =
+            (0..count).map(|k| (&file[at(k)..at(k) + 8], &file[start(k)..start(k) + lengths[k]])).collect();
         let own = own_answers(&bodies);
         self.note_bodies(&bodies, &own);
         told_of_bodies(&bodies, &own)
@@ -177,8 +215,7 @@ impl Run {
     }
 
     fn check_places(&mut self, file: &[u8], told: &DayAnswer, n: u64) {
-        for _ in 0..2 {
-            let asked = gen::any_place(&mut self.rng, n as usize);
+        for asked in [1 + self.rng.below(n), gen::any_place(&mut self.rng, n as usize)] {
             let (answer, body) = day_body(file, asked);
             assert_eq!(answer, *told);
             let there = 1 <= asked && asked <= n;
@@ -188,18 +225,18 @@ impl Run {
                 DayBody::NoBody => 2,
             };
             assert_eq!(case, if !told.is_accepted() { 0 } else { 2 - u64::from(there) });
-            self.counters[1].note_body(&answer, asked, case, refused_in(file, &answer));
+            self.counters[1].note_body(file, &answer, asked, case, refused_in(file, &answer));
         }
     }
 
     /// No part of an accepted file is accepted, nor is more than it, nor one with another byte in its contents.
-    fn check_changed(&mut self, file: &[u8], n: usize) {
+    fn check_changed(&mut self, file: &[u8], contents: usize) {
         for _ in 0..4 {
             let end = self.rng.index(file.len());
             assert!([30, 31].contains(&day_read(&file[..end]).0.number));
         }
         assert_eq!(day_read(&[file, b" "].concat()).0, DayAnswer::alone(31));
-        let at = self.rng.index(3 + 13 * n);
+        let at = self.rng.index(contents);
         let mut changed = file.to_vec();
         changed[at] ^= 1 + self.rng.below(255) as u8;
         assert!(!day_read(&changed).0.is_accepted(), "byte {at}");
@@ -215,12 +252,12 @@ impl Run {
         assert_eq!(told, self.expected_of_writing(&input));
         let n = lengths.len() as u64;
         let refused = refused_in_parts(names, lengths, &told);
-        self.counters[2].note_bodies(DayOperation::Write, &told, n, refused);
+        self.counters[2].note_writing(lengths, &told, refused);
         if !told.is_accepted() {
             assert!((length, &after) == (0, room), "a refusal");
             return;
         }
-        self.seen.accepted_writes += 1;
+        self.seen.accepted_writes[form_for(lengths).0] += 1;
         let (file, rest) = after.split_at(length as usize);
         assert!(*rest == room[file.len()..], "bytes past the file");
         assert_eq!(day_read(file), (DayAnswer::accepted(), n));
@@ -240,13 +277,14 @@ impl Run {
             (names.len() > 16 * 8, &mut seen.too_many_names),
             (names.len() / 8 != lengths.len(), &mut seen.lengths_for_others),
             (total > u128::from(u64::MAX), &mut seen.sum_past_the_largest),
-            (lengths.iter().any(|&length| length > 99_999), &mut seen.length_over_five_digits),
+            (lengths.iter().any(|&length| length > 999_999), &mut seen.length_over_six_digits),
         ] {
             if wrong {
                 *cause += 1;
                 return DayAnswer::alone(30);
             }
         }
+        seen.over_the_limit += u64::from(lengths.iter().any(|&length| length > 300_300));
         if total != bodies.len() as u128 {
             return DayAnswer::alone(31);
         }
@@ -257,8 +295,9 @@ impl Run {
             named.push((name, bytes));
             rest = after;
         }
+        let (_, entry) = form_for(lengths);
         match told_of_bodies(&named, &own_answers(&named)) {
-            told if told.number == 0 && room.len() < 3 + 13 * named.len() + bodies.len() => {
+            told if told.number == 0 && room.len() < 3 + entry * named.len() + bodies.len() => {
                 DayAnswer::alone(8)
             }
             told => told,
@@ -269,7 +308,8 @@ impl Run {
 /// Name and bytes of every body: each lies behind the one before it, and the last ends with the file.
 fn taken_apart(file: &[u8], n: u64) -> Vec<(Vec<u8>, &[u8])> {
     let mut bodies = Vec::new();
-    let mut at = 3 + 13 * n as usize;
+    let (_, entry) = form_said(file).expect("a form");
+    let mut at = 3 + entry * n as usize;
     for which in 1..=n {
         let (told, DayBody::Body { name, start, length }) = day_body(file, which) else {
             panic!("body {which} of {n}");
@@ -288,11 +328,28 @@ fn taken_apart(file: &[u8], n: u64) -> Vec<(Vec<u8>, &[u8])> {
 fn check_rewriting(file: &[u8], bodies: &[(Vec<u8>, &[u8])]) {
     let names: Vec<u8> = bodies.iter().flat_map(|(name, _)| name.clone()).collect();
     let lengths: Vec<u64> = bodies.iter().map(|(_, bytes)| bytes.len() as u64).collect();
-    let joined: Vec<u8> = bodies.iter().flat_map(|(_, bytes)| bytes.to_vec()).collect();
+    let joined = bodies.iter().map(|(_, bytes)| *bytes).collect::<Vec<_>>().concat();
     let mut room = vec![0; file.len()];
     let written = day_write(&names, &lengths, &joined, &mut room);
     assert_eq!(written, (DayAnswer::accepted(), file.len() as u64));
     assert!(room == file, "another file");
+}
+
+/// The same bodies in the other form, or with the digits of the other, are no day file.
+fn check_other_forms(file: &[u8]) {
+    let day = gen::DayDraft::of(file).expect("its bodies");
+    for (form, digits) in [(b'1', 5), (b'1', 6), (b'2', 5), (b'2', 6)] {
+        let other = day.file_in(form, digits);
+        let told = day_read(&other).0.number;
+        match (form, digits) {
+            _ if other == file => assert_eq!(told, 0),
+            // The sixth digit of a length is a letter of what follows it; or the "2" could be a "1".
+            (b'2', _) => assert_eq!(told, 30),
+            // The lengths are short of what they were.
+            (_, 5) => assert_eq!(told, 31),
+            _ => assert!([30, 31].contains(&told)),
+        }
+    }
 }
 
 #[test]
@@ -310,8 +367,10 @@ fn good_days_are_good() {
     let mut rng = Rng::new(11);
     for round in 0..340 {
         let n = round % 17;
-        let day = gen::day_of(&mut rng, n);
+        let long = n > 0 && round >= 17 * 15;
+        let day = if long { gen::long_day(&mut rng, n) } else { gen::day_of(&mut rng, n) };
         let file = day.file();
+        assert_eq!(file[0], if long { b'2' } else { b'1' });
         assert_eq!(day_read(&file), (DayAnswer::accepted(), n as u64));
         let mut room = vec![0; file.len()];
         let told = day_write(&day.names(), &day.lengths(), &day.joined(), &mut room);

@@ -471,34 +471,61 @@ fn q1j_lengths_and_counts() {
 }
 
 #[test]
-fn q1j_the_431st_record() {
+fn q12a_the_2001st_record() {
     for (profile, records) in
-        [(ORDINARY, many_records(431)), (EXEMPT, (1..=431).map(|k| exempt(&format!("P{k}"))).collect())]
+        [(ORDINARY, many_records(2_001)), (EXEMPT, (1..=2_001).map(|k| exempt(&format!("P{k}"))).collect())]
     {
-        assert_eq!(evidence_read(profile, &file(&records[..430])), accepted());
+        // What was one too many is not any more.
+        for n in [430, 431, 1_999, 2_000] {
+            assert_eq!(evidence_read(profile, &file(&records[..n])), accepted());
+        }
         let more = file(&records);
         assert_eq!(evidence_read(profile, &more), three());
         // Before any item of that record and of the trailer, after those of all before.
-        assert_eq!(evidence_read(profile, &put(&more, 431 * 1_024, b"X")), three());
-        assert_eq!(evidence_read(profile, &put(&more, 432 * 1_024, b"X")), three());
-        assert_eq!(evidence_read(profile, &put(&more, 430 * 1_024, b"X")), broken(430, 1, "0081"));
-        assert_eq!(evidence_read(profile, &put(&more, 430 * 1_024 + 1_023, b"X")), broken(430, 14, "0089"));
+        assert_eq!(evidence_read(profile, &put(&more, 2_001 * 1_024, b"X")), three());
+        assert_eq!(evidence_read(profile, &put(&more, 2_002 * 1_024, b"X")), three());
+        assert_eq!(evidence_read(profile, &put(&more, 2_000 * 1_024, b"X")), broken(2_000, 1, "0081"));
+        let filler = 2_000 * 1_024 + 1_023;
+        assert_eq!(evidence_read(profile, &put(&more, filler, b"X")), broken(2_000, 14, "0089"));
         assert_eq!(evidence_read(profile, &put(&more, 1_023, b"X")), broken(0, 7, "0089"));
         // Before the counts and the keys.
-        assert_eq!(evidence_read(profile, &put(&more, 43, b"0000430")), three());
+        assert_eq!(evidence_read(profile, &put(&more, 43, b"0002000")), three());
         let same = put(&more, 2 * 1_024 + 45, &records[0].0[..61]);
         assert_eq!(evidence_read(profile, &same), three());
-        assert_eq!(written(profile, &joined(&records), 1_000_000).0, three());
-        let (told, length, room) = written(profile, &joined(&records[..430]), 432 * 1_024);
-        assert_eq!((told, length, room), (accepted(), 432 * 1_024, file(&records[..430])));
+        assert_eq!(written(profile, &joined(&records), 3_000_000).0, three());
+        let (told, length, room) = written(profile, &joined(&records[..2_000]), 2_002 * 1_024);
+        assert_eq!((told, length), (accepted(), 2_002 * 1_024));
+        assert!(room == file(&records[..2_000]));
     }
     // The last record may have more than one block, and the trailer is record n + 1.
-    let mut records = many_records(430);
-    records[429] = photo("P430", 5_000);
+    let mut records = many_records(2_000);
+    records[1_999] = photo("P2000", 5_000);
     let whole = file(&records);
     assert_eq!(evidence_read(ORDINARY, &whole), accepted());
     let last = whole.len() - 1_024;
-    assert_eq!(evidence_read(ORDINARY, &put(&whole, last, b"X")), answer(0, 4, 431, 1, "0081"));
+    assert_eq!(evidence_read(ORDINARY, &put(&whole, last, b"X")), answer(0, 4, 2_001, 1, "0081"));
+}
+
+/// 4,096 data blocks stay the most: 2,000 records have two each, and some one more.
+#[test]
+fn q12a_as_many_records_and_blocks_as_there_may_be() {
+    let of = |longer: usize| -> Vec<Given> {
+        let length = |k: usize| if k <= longer { 1_930 } else { 1_929 };
+        (1..=2_000).map(|k| photo(&format!("P{k}"), length(k))).collect()
+    };
+    let [most, over] = [96, 97].map(of);
+    let whole = file(&most);
+    assert_eq!(whole.len(), 4_098 * 1_024);
+    assert_eq!(evidence_read(ORDINARY, &whole), accepted());
+    // Record 2,000 begins 2 blocks before the trailer.
+    let part = EvidencePart::Part { start: 4_095 * 1_024 + 119, length: 1_929 };
+    assert_eq!(evidence_part(ORDINARY, &whole, 2_000), (accepted(), part));
+    assert_eq!(evidence_part(ORDINARY, &whole, 2_001), (accepted(), EvidencePart::NoRecord));
+    assert_eq!(evidence_read(ORDINARY, &file(&over)), three());
+    assert_eq!(written(ORDINARY, &joined(&over), 0).0, three());
+    let (told, length, room) = written(ORDINARY, &joined(&most), whole.len());
+    assert_eq!((told, length), (accepted(), 4_098 * 1_024));
+    assert!(room == whole);
 }
 
 #[test]
@@ -562,9 +589,11 @@ fn q1l_keys() {
     assert_eq!(evidence_read(ORDINARY, &put(&same, 49, b"5")), answer(0, 6, 0, 6, "0000"));
     assert_eq!(evidence_read(ORDINARY, &put(&same, 5 * 1_024 + 51, b"5")), answer(0, 6, 5, 6, "0000"));
     // Keys are looked for among all records.
-    let mut records = many_records(430);
-    records[429] = records[0].clone();
-    assert_eq!(told(&records), seven(430));
+    for n in [430, 2_000] {
+        let mut records = many_records(n);
+        records[n - 1] = records[0].clone();
+        assert_eq!(told(&records), seven(n as u64));
+    }
 }
 
 #[test]
@@ -574,7 +603,7 @@ fn q1m_parts() {
     assert_eq!(evidence_part(ORDINARY, &whole, 1), part(1_143, 905));
     assert_eq!(evidence_part(ORDINARY, &whole, 2), part(2_167, 906));
     assert_eq!(evidence_part(ORDINARY, &whole, 3), part(4_215, 1));
-    for record in [0, 4, 5, 431, 1 << 32, (1 << 32) + 1, 1 << 63, u64::MAX - 1, u64::MAX] {
+    for record in [0, 4, 5, 2_001, 1 << 32, (1 << 32) + 1, 1 << 63, u64::MAX - 1, u64::MAX] {
         assert_eq!(evidence_part(ORDINARY, &whole, record), (accepted(), EvidencePart::NoRecord));
     }
     let bad = put(&whole, 2_047 + 1_024, b"x");
@@ -667,15 +696,17 @@ fn q1o_the_order_of_the_writer() {
 
 #[test]
 fn q1o_too_many_in_the_writer() {
-    // The 431st record, whatever it is.
-    let most = joined(&many_records(430));
+    // The 2,001st record, whatever it is; the 431st is one like any other.
+    let some = joined(&many_records(430));
+    assert_eq!(written(ORDINARY, &[&some[..], b"0123456789"].concat(), 0).0, two());
+    let most = joined(&many_records(2_000));
     for more in [&b"x"[..], b"0123456789", &joined(&[photo("Q", 9)]), &[b' '; 74]] {
         assert_eq!(written(ORDINARY, &[&most[..], more].concat(), 0).0, three());
     }
     assert_eq!(written(ORDINARY, &most, 0).0, eight());
     // A fault before it comes first.
-    let bad = put(&most, 429 * 83, b" ");
-    assert_eq!(written(ORDINARY, &[&bad[..], b"x"].concat(), 0).0, broken(430, 6, "0098"));
+    let bad = put(&most, 1_999 * 83, b" ");
+    assert_eq!(written(ORDINARY, &[&bad[..], b"x"].concat(), 0).0, broken(2_000, 6, "0098"));
     // Blocks so far: 4,096 are good, and one more is not.
     let (good, over) = (joined(&many_blocks(0)), joined(&many_blocks(1)));
     assert_eq!(written(ORDINARY, &good, 0).0, eight());
@@ -870,15 +901,15 @@ fn q1t_exactly_one() {
     assert_eq!(evidence_compare(EXEMPT, &enrolments, &exempted), accepted());
     assert_eq!(evidence_compare(EXEMPT, &enrolments, &file(&[exempt("B")])), twenty(1));
     // As many as there can be.
-    let payers: Vec<String> = (1..=430).map(|k| format!("P{k}")).collect();
+    let payers: Vec<String> = (1..=2_000).map(|k| format!("P{k}")).collect();
     let kinds: Vec<(&str, &str)> = payers.iter().map(|payer| ("1", payer.as_str())).collect();
     let enrolments = enrolments_of(&kinds);
     let mut names: Vec<&str> = payers.iter().rev().map(String::as_str).collect();
     assert_eq!(evidence_compare(ORDINARY, &enrolments, &evidence_of(&names)), accepted());
     names[7] = "X";
-    assert_eq!(evidence_compare(ORDINARY, &enrolments, &evidence_of(&names)), twenty(423));
+    assert_eq!(evidence_compare(ORDINARY, &enrolments, &evidence_of(&names)), twenty(1_993));
     names.remove(7);
-    assert_eq!(evidence_compare(ORDINARY, &enrolments, &evidence_of(&names)), twenty(423));
+    assert_eq!(evidence_compare(ORDINARY, &enrolments, &evidence_of(&names)), twenty(1_993));
 }
 
 #[test]
@@ -1031,10 +1062,10 @@ fn both_round_trips() {
     for (profile, records) in [
         (ORDINARY, vec![]),
         (ORDINARY, vec![photo("A", 905), photo("B", 906), sound, signed, photo("D", 1)]),
-        (ORDINARY, many_records(430)),
+        (ORDINARY, many_records(300)),
         (ORDINARY, many_blocks(0)),
         (EXEMPT, vec![]),
-        (EXEMPT, (1..=430).map(|k| exempt(&format!("P{k}"))).collect()),
+        (EXEMPT, (1..=300).map(|k| exempt(&format!("P{k}"))).collect()),
     ] {
         check_round_trips(profile, &records);
     }

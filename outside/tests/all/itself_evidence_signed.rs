@@ -119,8 +119,8 @@ fn the_first_is_told() {
         let wanted = (1..=5).find(|&record| is_picture(record)).map_or(accepted(), twenty_two);
         assert_eq!(told(&records), wanted, "{pattern:05b}");
     }
-    for k in [1, 2, 215, 429, 430] {
-        let mut records: Vec<Given> = (1..=430).map(|k| signed(&format!("P{k}"))).collect();
+    for k in [1, 2, 430, 1_000, 1_999, 2_000] {
+        let mut records: Vec<Given> = (1..=2_000).map(|k| signed(&format!("P{k}"))).collect();
         records[k - 1] = renamed("Q");
         assert_eq!(told(&records), twenty_two(k as u64));
     }
@@ -148,7 +148,8 @@ fn all_else_comes_first() {
     assert_eq!(told(&[renamed("A"), renamed("A")]), answer(0, 7, 2, 6, "0000"));
     assert_eq!(evidence_read(ORDINARY, &put(&file(&same), 49, b"5")), answer(0, 6, 0, 6, "0000"));
     // Too many records.
-    let many: Vec<Given> = (1..=431).map(|k| renamed(&format!("P{k}"))).collect();
+    let many: Vec<Given> = (1..=2_001).map(|k| renamed(&format!("P{k}"))).collect();
+    assert_eq!(told(&many[..2_000]), twenty_two(1));
     assert_eq!(told(&many), answer(0, 3, 0, 0, "0000"));
 }
 

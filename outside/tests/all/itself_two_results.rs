@@ -143,15 +143,18 @@ fn put_in(mut body: Vec<u8>, at: usize, text: &[u8]) -> Vec<u8> {
 fn q10a_never_8() {
     let asked = |n: u64| (1..=n).map(|k| debit(140, "0", &format!("P{k}"), "")).collect::<Vec<_>>();
     let no = |n: u64| (1..=n).map(|k| debit(140, "0", &format!("P{k}"), "N0021")).collect::<Vec<_>>();
-    let request = file("EB21", &asked(430));
-    let [all, but_the_last, none] = [430, 429, 0].map(|n| file("EB22", &no(n)));
-    assert_eq!(told("EB21", &request, &all, &all), same());
-    assert_eq!(told("EB21", &request, &all, &but_the_last), differ(430));
-    assert_eq!(told("EB21", &request, &but_the_last, &all), differ(430));
-    assert_eq!(told("EB21", &request, &none, &all), differ(1));
-    let more = file("EB21", &asked(431));
+    for n in [430, 431, 1_999, 2_000] {
+        let request = file("EB21", &asked(n));
+        let [all, but_the_last, none] = [n, n - 1, 0].map(|n| file("EB22", &no(n)));
+        assert_eq!(told("EB21", &request, &all, &all), same());
+        assert_eq!(told("EB21", &request, &all, &but_the_last), differ(n));
+        assert_eq!(told("EB21", &request, &but_the_last, &all), differ(n));
+        assert_eq!(told("EB21", &request, &none, &all), differ(1));
+    }
+    let [request, more] = [2_000, 2_001].map(|n| file("EB21", &asked(n)));
+    let none = file("EB22", &[]);
     assert_eq!(told("EB21", &more, &none, &none), first(answer(1, 3, 0, 0, "0000")));
-    let more = file("EB22", &no(431));
+    let more = file("EB22", &no(2_001));
     assert_eq!(told("EB21", &request, &more, &none), first(answer(2, 3, 0, 0, "0000")));
     assert_eq!(told("EB21", &request, &none, &more), second(answer(2, 3, 0, 0, "0000")));
 }
@@ -189,7 +192,7 @@ fn q10a_the_numbers() {
     let mark = u64::from(u32::from_be_bytes(*b"0081"));
     let numbers = |(told, compared): (Answer, Compared)| seven(&told, &compared);
     assert_eq!(numbers(same()), [0, 0, 0, 0, code, 0, 0]);
-    assert_eq!(numbers(differ(430)), [0, 0, 0, 0, code, 0, 430]);
+    assert_eq!(numbers(differ(2_000)), [0, 0, 0, 0, code, 0, 2_000]);
     assert_eq!(numbers(first(answer(1, 4, 0, 1, "0081"))), [1, 4, 0, 1, mark, 1, 0]);
     assert_eq!(numbers(second(answer(0, 14, 2, 6, "0000"))), [0, 14, 2, 6, code, 2, 0]);
 }
@@ -306,7 +309,7 @@ fn the_pairs_by_themselves() {
             assert_eq!((told, compared), (answer(0, 1, 0, 0, "0000"), Compared::FirstRefused));
             continue;
         }
-        let n = gen::data_records(150, &request).min(430);
+        let n = gen::data_records(150, &request).min(2_000);
         let of = |result: &[u8]| {
             let mut lists = [vec![0; n], vec![0; n]];
             let [taken, not_taken] = &mut lists;

@@ -495,6 +495,18 @@ fn the_samples_of_days_are_many_enough() {
         };
         assert!(days().any(accepted), "no day file of {bodies} bodies is accepted");
     }
+    // In each form one that is accepted, with a body on its side of what five digits can say, and one that is not.
+    for (form, told) in [
+        ("1", "accepted EB210315@29+99900 "),
+        ("2", "accepted EB210315@31+100050 "),
+        ("1", "refused 31 "),
+        ("2", "refused 30 "),
+    ] {
+        let of = |sample: &Sample| {
+            sample.files.all()[0].starts_with(form.as_bytes()) && sample.expected.starts_with(told)
+        };
+        assert!(days().any(of), "no day file of form {form} is told {told}");
+    }
 }
 
 /// The debits of these kinds, by themselves, in pairs and in day files: data records and trailer of each whole file.

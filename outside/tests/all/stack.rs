@@ -1,5 +1,6 @@
 //! How much stack the library needs: every function of the C face, called on a painted stack with the largest inputs,
-//! good ones and ones whose fault is found last, touches no more than include/cms.h says.
+//! good ones and ones whose fault is found last, touches no more than include/cms.h says; and called on a thread with as
+//! small a stack as it names, comes back with the same.
 
 use super::{
     stack_arrival, stack_board, stack_changes, stack_day, stack_evidence, stack_signed, stack_two_results,
@@ -8,12 +9,14 @@ use crate::common::put;
 use outside::bridge::{ask, Call};
 use outside::gen::{self, Draft, Rng};
 use outside::layout::{Kind, PairKind, MOST_RECORDS};
+use outside::post::LONGEST_FILE;
 use outside::proved::Parts;
-use std::collections::BTreeMap;
+use std::collections::{BTreeMap, BTreeSet};
 
 /// The bytes of stack that include/cms.h asks for.
-const MOST: u64 = 65_536;
-const SAID: &str = "No function needs more than 64 KB of stack.";
+const MOST: u64 = 98_304;
+const SAID: &str =
+    "No function needs more than 96 KB of stack, so a thread with a stack of 128 KB can call every one.";
 
 /// A call, and what it must return so that its input is what it is called.
 pub(super) struct Case {
@@ -197,40 +200,75 @@ fn of_two_files(pair: PairKind, request: &Draft, result: &Draft) -> Vec<Case> {
             let none = Call::outcome(number, &request, &result, MOST_RECORDS as u64 + 1);
             add("cms_outcome", format!("{input}, record {}", MOST_RECORDS + 1), 15, none);
         }
-        if pair == PairKind::NextDay {
+    }
+    cases
+}
+
+/// The largest pairs that the posting program has room for, and larger ones, which it refuses.
+fn of_posting(rng: &mut Rng) -> Vec<Case> {
+    let most = LONGEST_FILE / Kind::EB21.record_length() - 2;
+    let mut cases = Vec::new();
+    for n in [most, MOST_RECORDS] {
+        let [request, result] = drafts(rng, PairKind::NextDay, n);
+        for (what, number, request, result) in pairs(PairKind::NextDay, &request, &result) {
             let text = outside::post(&request, &result);
             let lines = text.iter().filter(|&&byte| byte == b'\n').count();
-            assert_eq!(lines > MOST_RECORDS, returned == 0, "a line for each request, and the sums");
-            add("cms_post", input.clone(), text.len() as u64, Call::post(&request, &result, &text));
-            add("cms_post", format!("{input}, a short text"), 0, Call::post(&request, &result, &text[1..]));
+            let accepted = number == 0 && n == most;
+            assert_eq!(lines, if accepted { n + 1 } else { 1 }, "a line for each request, and the sums");
+            let (input, length) = (format!("{n} requests: {what}"), text.len() as u64);
+            let mut add = |input, returned, text: &[u8]| {
+                let call = Call::post(&request, &result, text);
+                cases.push(Case { function: "cms_post", input, returned, call });
+            };
+            add(format!("{input}, a short text"), 0, &text[1..]);
+            add(input, length, &text);
         }
     }
     cases
 }
 
-fn all_cases() -> Vec<Case> {
-    let mut rng = Rng::new(outside::settings::seed());
-    let mut cases = Vec::new();
-    for pair in PairKind::ALL {
-        let [request, result] = drafts(&mut rng, pair, MOST_RECORDS);
-        cases.extend(of_one_file(pair.request(), &request));
-        cases.extend(of_one_file(pair.result(), &result));
-        cases.extend(stack_arrival::all_cases(pair.request(), &request));
-        cases.extend(stack_arrival::all_cases(pair.result(), &result));
-        cases.extend(of_writing(pair.request(), &request));
-        cases.extend(of_two_files(pair, &request, &result));
-        cases.extend(stack_board::all_cases(pair, &request, &result));
-        cases.extend(stack_two_results::all_cases(pair, &request, &result));
-    }
-    let of_bank = gen::request_of(&mut rng, Kind::EB11, MOST_RECORDS);
-    cases.extend(of_one_file(Kind::EB11, &of_bank));
+fn of_a_pair(rng: &mut Rng, pair: PairKind) -> Vec<Case> {
+    let [request, result] = drafts(rng, pair, MOST_RECORDS);
+    let cases = [
+        of_one_file(pair.request(), &request),
+        of_one_file(pair.result(), &result),
+        stack_arrival::all_cases(pair.request(), &request),
+        stack_arrival::all_cases(pair.result(), &result),
+        of_writing(pair.request(), &request),
+        of_two_files(pair, &request, &result),
+        stack_board::all_cases(pair, &request, &result),
+        stack_two_results::all_cases(pair, &request, &result),
+    ];
+    cases.into_iter().flatten().collect()
+}
+
+fn of_banks(rng: &mut Rng) -> Vec<Case> {
+    let of_bank = gen::request_of(rng, Kind::EB11, MOST_RECORDS);
+    let mut cases = of_one_file(Kind::EB11, &of_bank);
     cases.extend(stack_arrival::all_cases(Kind::EB11, &of_bank));
-    cases.extend(stack_changes::all_cases(&mut rng));
-    cases.extend(stack_evidence::all_cases(&mut rng));
-    cases.extend(stack_day::all_cases(&mut rng));
-    cases.extend(stack_signed::all_cases());
     cases
 }
+
+/// Hands out every case; some are made together, when those before them are done with, since they have many MB.
+fn all_cases() -> impl Iterator<Item = Case> {
+    let mut rng = Rng::new(outside::settings::seed());
+    let together: [fn(&mut Rng) -> Vec<Case>; 11] = [
+        |rng| of_a_pair(rng, PairKind::Enrolment),
+        |rng| of_a_pair(rng, PairKind::NextDay),
+        |rng| of_a_pair(rng, PairKind::SameDay),
+        of_posting,
+        of_banks,
+        stack_changes::all_cases,
+        stack_evidence::ordinary,
+        stack_evidence::signed,
+        stack_evidence::partly_exempt,
+        stack_day::all_cases,
+        |_| stack_signed::all_cases(),
+    ];
+    together.into_iter().flat_map(move |cases| cases(&mut rng))
+}
+
+const HEADER: &str = include_str!("../../../include/cms.h");
 
 /// The functions that the header declares.
 fn declared(header: &str) -> Vec<&str> {
@@ -259,9 +297,24 @@ fn no_function_needs_more_stack_than_the_header_says() {
     for (function, (touched, input)) in &deepest {
         println!("{function:20} {touched:6} {input}");
     }
-    let header = include_str!("../../../include/cms.h");
-    assert!(header.contains(SAID), "include/cms.h does not say: {SAID}");
-    assert_eq!(deepest.keys().copied().collect::<Vec<_>>(), declared(header), "every function");
+    assert!(HEADER.contains(SAID), "include/cms.h does not say: {SAID}");
+    assert_eq!(deepest.keys().copied().collect::<Vec<_>>(), declared(HEADER), "every function");
     let over: Vec<_> = deepest.iter().filter(|(_, (touched, _))| *touched > MOST).collect();
     assert!(over.is_empty(), "more than {MOST} bytes of stack: {over:?}");
+}
+
+/// The same calls on a thread with a stack of 128 KB, of which nothing may be touched below: each comes back, and says what it
+/// says on a larger one.
+#[test]
+fn a_thread_with_a_small_stack_can_call_every_function() {
+    let mut called = BTreeSet::new();
+    for Case { function, input, returned, call } in all_cases() {
+        let plain = ask(&call).unwrap_or_else(|breach| panic!("{function}, {input}: {breach}"));
+        let said = ask(&call.on_a_thread())
+            .unwrap_or_else(|breach| panic!("{function}, {input}, on a thread: {breach}"));
+        assert_eq!(said.returned, returned, "{function}, {input}");
+        assert!(said == plain, "{function}, {input}: another answer on a thread");
+        called.insert(function);
+    }
+    assert_eq!(called.into_iter().collect::<Vec<_>>(), declared(HEADER), "every function");
 }

@@ -2,7 +2,7 @@
 //! fault is found last.
 
 use super::stack::{files, Case};
-use outside::arrival::ENDED;
+use outside::arrival::{ENDED, FOLD, FOLDED_FROM};
 use outside::bridge::Call;
 use outside::gen::{self, Draft};
 use outside::layout::Kind;
@@ -21,7 +21,7 @@ fn of_parts(what: &str, file: &[u8]) -> Vec<Case> {
         case("in one part", 10, [0, 0], &room, file),
         case("an empty part", 10, [kept, 0], &room, b""),
         case("its last byte", 10, [kept - 1, 0], &room, &file[file.len() - 1..]),
-        case("past the room", 10, [kept, 65_999], &room[..file.len()], file),
+        case("past the room", 10, [kept, FOLDED_FROM + FOLD - 1], &room[..file.len()], file),
         case("with no room", 10, [u64::MAX, u64::MAX - 1], b"", file),
         case("after the end", 9, [kept, ENDED], &room, file),
     ]

@@ -64,6 +64,11 @@ fn files(draft: &EvidenceDraft) -> Vec<Input> {
         ("good", 0, good.clone()),
     ];
     files.extend(without_last_frame(draft).map(|without| (NO_FRAME, 22, without.file())));
+    let mut more = draft.clone();
+    more.records.push(draft.records[0].clone());
+    if more.file().len() <= (MOST_BLOCKS + 2) * BLOCK {
+        files.push(("a record too many", 3, more.file()));
+    }
     files
 }
 
@@ -183,16 +188,24 @@ fn of_comparing(rng: &mut Rng, number: u32, of: &str, draft: &EvidenceDraft) -> 
     inputs.into_iter().map(case).collect()
 }
 
-pub(super) fn all_cases(rng: &mut Rng) -> Vec<Case> {
-    let mut cases = Vec::new();
-    for (number, of, draft) in [
-        (0, "ordinary", largest(rng, Profile::Ordinary)),
-        (0, "ordinary, signed", largest_signed(rng)),
-        (1, "partly exempt", largest(rng, Profile::PartlyExempt)),
-    ] {
-        cases.extend(of_one_file(number, of, &draft));
-        cases.extend(of_writing(number, of, &draft));
-        cases.extend(of_comparing(rng, number, of, &draft));
-    }
+fn all_cases(rng: &mut Rng, number: u32, of: &str, draft: &EvidenceDraft) -> Vec<Case> {
+    let mut cases = of_one_file(number, of, draft);
+    cases.extend(of_writing(number, of, draft));
+    cases.extend(of_comparing(rng, number, of, draft));
     cases
+}
+
+pub(super) fn ordinary(rng: &mut Rng) -> Vec<Case> {
+    let draft = largest(rng, Profile::Ordinary);
+    all_cases(rng, 0, "ordinary", &draft)
+}
+
+pub(super) fn signed(rng: &mut Rng) -> Vec<Case> {
+    let draft = largest_signed(rng);
+    all_cases(rng, 0, "ordinary, signed", &draft)
+}
+
+pub(super) fn partly_exempt(rng: &mut Rng) -> Vec<Case> {
+    let draft = largest(rng, Profile::PartlyExempt);
+    all_cases(rng, 1, "partly exempt", &draft)
 }

@@ -1,9 +1,9 @@
-//! The longest file taken in parts and ended, by the library and by the reference, beside one reading of the same bytes by
-//! the library, in one run.
+//! A file taken in parts and ended, by the library and by the reference, beside one reading of the same bytes by the library,
+//! in one run. The room is one for the longest file.
 
-use super::measures::{in_turns, request_of};
+use super::measures::{in_turns, print_growth, request_of, GROWN};
 use outside::gen::{longest_file, Rng};
-use outside::layout::{Kind, MOST_RECORDS};
+use outside::layout::Kind;
 use outside::{linked, Arrival};
 use std::hint::black_box;
 
@@ -12,28 +12,34 @@ const PARTS: [usize; 3] = [1, 150, 4_096];
 const KIND: Kind = Kind::EB21;
 
 pub fn print() {
-    let file = request_of(&mut Rng::new(1), KIND, MOST_RECORDS).file();
-    assert_eq!(file.len(), longest_file());
+    let files = GROWN.map(|n| request_of(&mut Rng::new(1), KIND, n).file());
+    assert_eq!(files[1].len(), longest_file());
     println!(
-        "{:<12}{:>8}{:>10}{:>10}{:>10}{:>14}{:>13}",
-        "", "part", "library", "reference", "one read", "lib/reference", "lib/one read"
+        "{:<16}{:>8}{:>10}{:>10}{:>10}{:>10}{:>14}{:>13}",
+        "", "records", "part", "library", "reference", "one read", "lib/reference", "lib/one read"
     );
     for part in PARTS {
-        let [library, reference, one_read] = arriving(&file, part);
-        println!(
-            "{:<12}{part:>8}{:>10.2}{:>10.2}{:>10.2}{:>14.2}{:>13.2}",
-            "arrive EB21",
-            library * 1e6,
-            reference * 1e6,
-            one_read * 1e6,
-            library / reference,
-            library / one_read,
-        );
+        let times = [0, 1].map(|which| {
+            let times = arriving(&files[which], part);
+            let [library, reference, one_read] = times;
+            println!(
+                "{:<16}{:>8}{part:>10}{:>10.2}{:>10.2}{:>10.2}{:>14.2}{:>13.2}",
+                "arrive EB21",
+                GROWN[which],
+                library * 1e6,
+                reference * 1e6,
+                one_read * 1e6,
+                library / reference,
+                library / one_read,
+            );
+            times
+        });
+        print_growth("records", GROWN, times);
     }
     for part in PARTS {
-        let [first, last, _] = tenths(&file, part);
+        let [first, last, _] = tenths(&files[1], part);
         println!(
-            "{:<12}{part:>8} library: {first:.1} ns for each part of the first tenth, {last:.1} of the last",
+            "{:<16}parts of {part}, library: {first:.1} ns for each part of the longest file's first tenth, {last:.1} of the last",
             ""
         );
     }
@@ -45,7 +51,7 @@ fn arriving(file: &[u8], part: usize) -> [f64; 3] {
     let (told, state) = by_library(&mut room, file, part);
     let mut arrival = by_reference(file, part);
     assert_eq!(told, arrival.end(kind).five());
-    assert!(told[1] == 0 && state == arrival.state() && room == file);
+    assert!(told[1] == 0 && state == arrival.state() && room[..file.len()] == *file);
     in_turns([
         &mut || by_library(&mut room, black_box(file), part).0[1],
         &mut || by_reference(black_box(file), part).end(kind).number,

@@ -1,32 +1,39 @@
-//! The longest pair posted on boards of some sizes, by the library and by the reference, in one run. Posting changes the
-//! board, so each posts on a fresh copy; the copy is counted for both, and stands beside them by itself.
+//! Pairs posted on boards of some sizes, by the library and by the reference, in one run. Posting changes the board, so each
+//! posts on a fresh copy; the copy is counted for both, and stands beside them by itself.
 
-use super::measures::{in_turns, refused, request_of};
+use super::measures::{in_turns, print_growth, refused, request_of, GROWN};
 use outside::board::FIRST_DATES;
 use outside::gen::{Rng, LARGEST_AMOUNT};
-use outside::layout::{Kind, MOST_RECORDS};
+use outside::layout::Kind;
 use outside::{board_post, linked, Member};
 use std::hint::black_box;
 
-/// Each request has a payer of its own, so there are no fewer members.
-const MEMBERS: [usize; 3] = [MOST_RECORDS, 2_000, 10_000];
-const RESULTS: usize = 100;
+/// Requests, every fourth of which was answered, and members. Each request has a payer of its own, so there are no fewer.
+const SIZES: [(usize, usize); 7] = [
+    (GROWN[0], GROWN[0]),
+    (GROWN[1], GROWN[1]),
+    (GROWN[0], GROWN[1]),
+    (GROWN[0], 4_000),
+    (GROWN[1], 4_000),
+    (GROWN[0], 10_000),
+    (GROWN[1], 10_000),
+];
 const KIND: Kind = Kind::EB21;
 
 pub fn print() {
-    let mut rng = Rng::new(1);
-    let request = request_of(&mut rng, KIND, MOST_RECORDS);
-    let mut result = refused(&request, 4, b"N0021");
-    result.bodies.truncate(RESULTS);
-    let files = [request.file(), result.file()];
     println!(
-        "{:<12}{:>8}{:>10}{:>10}{:>10}{:>14}{:>16}",
-        "", "members", "library", "reference", "copy", "lib/reference", "lib ns/member"
+        "{:<16}{:>8}{:>10}{:>10}{:>10}{:>10}{:>14}{:>16}",
+        "", "requests", "members", "library", "reference", "copy", "lib/reference", "lib ns/member"
     );
-    let times = MEMBERS.map(|members| posting(&files, &board_of(&mut rng, members)));
-    for (members, [library, reference, copy]) in MEMBERS.iter().zip(times) {
+    let times = SIZES.map(|(requests, members)| {
+        let mut rng = Rng::new(1);
+        let request = request_of(&mut rng, KIND, requests);
+        let files = [request.file(), refused(&request, 4, b"N0021").file()];
+        posting(&files, &board_of(&mut rng, members))
+    });
+    for ((requests, members), [library, reference, copy]) in SIZES.iter().zip(times) {
         println!(
-            "{:<12}{members:>8}{:>10.2}{:>10.2}{:>10.2}{:>14.2}{:>16.1}",
+            "{:<16}{requests:>8}{members:>10}{:>10.2}{:>10.2}{:>10.2}{:>14.2}{:>16.1}",
             "board EB21",
             library * 1e6,
             reference * 1e6,
@@ -35,16 +42,10 @@ pub fn print() {
             library * 1e9 / *members as f64,
         );
     }
-    for who in 0..2 {
-        let name = ["library", "reference"][who];
-        let [small, middle, large] = times.map(|time| time[who]);
-        println!(
-            "{:<12}{name}: {:.1} times as long for 4.7 times the members, then {:.1} for 5 times",
-            "",
-            middle / small,
-            large / middle
-        );
-    }
+    print_growth("requests on as many members", GROWN, [times[0], times[1]]);
+    print_growth("requests on 10,000 members", GROWN, [times[5], times[6]]);
+    print_growth("members for 430 requests", GROWN, [times[0], times[2]]);
+    print_growth("members for 2,000 requests", [GROWN[1], 10_000], [times[1], times[6]]);
 }
 
 /// Members in any order, whose payers are numbered as those of the requests; all owe enough.

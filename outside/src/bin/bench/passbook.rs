@@ -1,8 +1,8 @@
-//! The longest EB21 read by the library, with all passbook texts in one form, form beside form in one run.
+//! An EB21 read by the library, with all passbook texts in one form, form beside form in one run.
 
-use super::measures::{in_turns, request_of};
+use super::measures::{in_turns, request_of, GROWN};
 use outside::gen::{body_item, Rng};
-use outside::layout::{Kind, MOST_RECORDS};
+use outside::layout::Kind;
 use outside::{linked, read};
 use std::hint::black_box;
 
@@ -15,26 +15,28 @@ const TEXTS: [&[u8; 16]; 3] = [
 ];
 
 pub fn print() {
-    let files = TEXTS.map(file_of);
-    let [mixed, one_byte, two_byte] = in_turns([
-        &mut || linked::read(KIND.number(), black_box(&files[0]))[1],
-        &mut || linked::read(KIND.number(), black_box(&files[1]))[1],
-        &mut || linked::read(KIND.number(), black_box(&files[2]))[1],
-    ]);
-    println!("{:<12}{:>8}{:>10}{:>10}{:>10}{:>14}", "", "records", "\"A5\"", "\"00\"", "two-byte", "A5/00");
-    println!(
-        "{:<12}{MOST_RECORDS:>8}{:>10.2}{:>10.2}{:>10.2}{:>14.2}",
-        "read EB21",
-        mixed * 1e6,
-        one_byte * 1e6,
-        two_byte * 1e6,
-        mixed / one_byte,
-    );
+    println!("{:<16}{:>8}{:>10}{:>10}{:>10}{:>14}", "", "records", "\"A5\"", "\"00\"", "two-byte", "A5/00");
+    for n in GROWN {
+        let files = TEXTS.map(|text| file_of(n, text));
+        let [mixed, one_byte, two_byte] = in_turns([
+            &mut || linked::read(KIND.number(), black_box(&files[0]))[1],
+            &mut || linked::read(KIND.number(), black_box(&files[1]))[1],
+            &mut || linked::read(KIND.number(), black_box(&files[2]))[1],
+        ]);
+        println!(
+            "{:<16}{n:>8}{:>10.2}{:>10.2}{:>10.2}{:>14.2}",
+            "read EB21",
+            mixed * 1e6,
+            one_byte * 1e6,
+            two_byte * 1e6,
+            mixed / one_byte,
+        );
+    }
 }
 
 /// The same file but for item 9 of its records.
-fn file_of(text: &[u8; 16]) -> Vec<u8> {
-    let mut draft = request_of(&mut Rng::new(1), KIND, MOST_RECORDS);
+fn file_of(n: usize, text: &[u8; 16]) -> Vec<u8> {
+    let mut draft = request_of(&mut Rng::new(1), KIND, n);
     draft.bodies.iter_mut().for_each(|body| body[body_item(KIND, 9)].copy_from_slice(text));
     let file = draft.file();
     let told = linked::read(KIND.number(), &file);

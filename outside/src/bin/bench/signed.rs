@@ -10,14 +10,14 @@ const SIZES: [usize; 4] = [1_024, 4_096, 10_240, 102_400];
 
 pub fn print() {
     println!(
-        "{:<12}{:>8}{:>10}{:>10}{:>10}{:>14}{:>13}{:>16}",
+        "{:<16}{:>8}{:>10}{:>10}{:>10}{:>14}{:>13}{:>16}",
         "", "bytes", "library", "reference", "checksum", "lib/reference", "lib/checksum", "lib ns/byte"
     );
     for (name, made) in [("deep frame", deep as fn(usize) -> Option<Vec<u8>>), ("flat frame", flat)] {
         for size in SIZES {
             let [library, reference, sum] = looking(&made(size).expect("there is one of that size"));
             println!(
-                "{name:<12}{size:>8}{:>10.2}{:>10.2}{:>10.2}{:>14.2}{:>13.2}{:>16.2}",
+                "{name:<16}{size:>8}{:>10.2}{:>10.2}{:>10.2}{:>14.2}{:>13.2}{:>16.2}",
                 library * 1e6,
                 reference * 1e6,
                 sum * 1e6,

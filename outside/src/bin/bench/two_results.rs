@@ -1,7 +1,7 @@
-//! The longest request with two results that list all of it, the second from behind, compared by the library and by the
-//! reference, in one run; beside them the library's pairing of the request with each of the two.
+//! A request with two results that list all of it, the second from behind, compared by the library and by the reference, in
+//! one run; beside them the library's pairing of the request with each of the two.
 
-use super::measures::{in_turns, refused, request_of};
+use super::measures::{in_turns, print_growth, refused, request_of, GROWN};
 use outside::gen::Rng;
 use outside::layout::{Kind, MOST_RECORDS};
 use outside::{linked, seven, two_results};
@@ -11,27 +11,30 @@ const KINDS: [Kind; 2] = [Kind::EB21, Kind::EC21];
 
 pub fn print() {
     println!(
-        "{:<12}{:>8}{:>10}{:>10}{:>10}{:>14}{:>13}{:>16}",
+        "{:<16}{:>8}{:>10}{:>10}{:>10}{:>14}{:>13}{:>16}",
         "", "records", "library", "reference", "two pairs", "lib/reference", "lib/pairs", "lib ns/record"
     );
     for kind in KINDS {
-        let mut rng = Rng::new(1);
-        let request = request_of(&mut rng, kind, MOST_RECORDS);
-        let first = refused(&request, 1, b"N0021");
-        let mut second = refused(&request, 1, b"N9999");
-        second.bodies.reverse();
-        let [library, reference, pairs] =
-            comparing(kind, [request, first, second].map(|draft| draft.file()));
-        println!(
-            "{:<12}{MOST_RECORDS:>8}{:>10.2}{:>10.2}{:>10.2}{:>14.2}{:>13.2}{:>16.0}",
-            format!("two {kind:?}"),
-            library * 1e6,
-            reference * 1e6,
-            pairs * 1e6,
-            library / reference,
-            library / pairs,
-            library * 1e9 / MOST_RECORDS as f64,
-        );
+        let times = GROWN.map(|n| {
+            let request = request_of(&mut Rng::new(1), kind, n);
+            let first = refused(&request, 1, b"N0021");
+            let mut second = refused(&request, 1, b"N9999");
+            second.bodies.reverse();
+            let times = comparing(kind, [request, first, second].map(|draft| draft.file()));
+            let [library, reference, pairs] = times;
+            println!(
+                "{:<16}{n:>8}{:>10.2}{:>10.2}{:>10.2}{:>14.2}{:>13.2}{:>16.0}",
+                format!("two {kind:?}"),
+                library * 1e6,
+                reference * 1e6,
+                pairs * 1e6,
+                library / reference,
+                library / pairs,
+                library * 1e9 / n as f64,
+            );
+            times
+        });
+        print_growth("records", GROWN, times);
     }
 }
 

@@ -23,7 +23,7 @@ accepted-requires c κs = search needs
 returns : tie.Need-returns
 unfolding lonelyTold lonely hasOther
 returns c =
-    let a = c .before .before .before .before .before .before .before .before .before in
+    let a = c .before .before .before .before .before .before .before .before in
     rw (← c .before .before .before .before .before .record-of .ensures .0, ← c .before .before .before .before .changes .ensures, c .before .before .before .if1 .taken, ← c .before .before .other-of .ensures, ← a .pre .0 .all, lt-ltb _ _ (c .before .if2 .taken)) (c .accepted .ensures)
 
 add-refused-at : tie.Need-add-refused-at
@@ -35,7 +35,7 @@ refused-at-requires c κs = search needs
 returns-2 : tie.Need-returns-2
 unfolding lonelyTold lonely hasOther
 returns-2 c =
-    let a = c .before .before .before .before .before .before .before .before .before in
+    let a = c .before .before .before .before .before .before .before .before in
     rw (← c .before .before .before .before .before .record-of .ensures .0, ← c .before .before .before .before .changes .ensures, c .before .before .before .if1 .taken, ← c .before .before .other-of .ensures, ← a .pre .0 .all, le-ltb _ _ (c .before .if2 .left)) (c .refused-at .ensures)
 
 accepted-requires-2 : tie.Need-accepted-requires-2

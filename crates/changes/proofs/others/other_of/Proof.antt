@@ -29,9 +29,9 @@ slice-aggregate-place-2 c = search needs
 
 place-requires : tie.Need-place-requires
 place-requires c κs =
-    let a = c .before .before .before .before .before .before .before .before in
+    let a = c .before .before .before .before .before .before .before in
     rw (c .before .before .spacing .ensures)
-    (key-fits EB11 (a .args .file .now) (a .args .n) (omega (arith, a .pre .0 .all, a .pre .0 .meets .lengths .fewest)), a .pre .0 .tabled)
+    (key-fits EB11 (a .args .file .now) (a .args .n) (omega (arith, a .pre .0 .all, a .pre .0 .meets .lengths .fewest)), a .pre .0 .chained)
 
 add-record-of-2 : tie.Need-add-record-of-2
 add-record-of-2 c = search needs
@@ -45,8 +45,8 @@ halves-requires c κs = search needs
 returns : tie.Need-returns
 unfolding halvesIn
 returns c =
-    let a = c .before .before .before .before .before .before .before .before .before .before .before .before .before in
-    keyed-other (a .args .file .now) (a .args .n) _ _ (a .pre .0) (a .args .i) _
+    let a = c .before .before .before .before .before .before .before .before .before .before .before .before in
+    keyed-other (a .args .file .now) (a .args .n) _ (a .pre .0) (a .args .i) _
     (rw (c .before .before .before .before .before .before .before .spacing .ensures, c .before .before .before .before .before .before .before .before .other-key .ensures, c .before .before .before .before .before .before .before .before .before .record-of .ensures .0) at (c .before .before .before .before .place .ensures))
     (c .before .before .before .if1 .taken)
     (rw (c .before .before .before .before .before .before .before .before .before .record-of .ensures .0, c .before .before .record-of2 .ensures .0) at (sym (c .before .halves .ensures) ∙ c .if2 .taken))
@@ -54,15 +54,15 @@ returns c =
 returns-2 : tie.Need-returns-2
 unfolding halvesIn
 returns-2 c =
-    let a = c .before .before .before .before .before .before .before .before .before .before .before .before .before in
-    keyed-none (a .args .file .now) (a .args .n) _ _ (a .pre .0) (a .args .i) (c .before .before .before .before .place .result)
+    let a = c .before .before .before .before .before .before .before .before .before .before .before .before in
+    keyed-none (a .args .file .now) (a .args .n) _ (a .pre .0) (a .args .i) (c .before .before .before .before .place .result)
     (rw (c .before .before .before .before .before .before .before .spacing .ensures, c .before .before .before .before .before .before .before .before .other-key .ensures, c .before .before .before .before .before .before .before .before .before .record-of .ensures .0) at (c .before .before .before .before .place .ensures))
     (λ h. rw (c .before .before .before .before .before .before .before .before .before .record-of .ensures .0, c .before .before .record-of2 .ensures .0) at (sym (c .before .halves .ensures) ∙ c .if2 .left))
 
 returns-3 : tie.Need-returns-3
 returns-3 c =
-    let a = c .before .before .before .before .before .before .before .before .before .before in
-    keyed-none (a .args .file .now) (a .args .n) _ _ (a .pre .0) (a .args .i) (c .before .place .result)
+    let a = c .before .before .before .before .before .before .before .before .before in
+    keyed-none (a .args .file .now) (a .args .n) _ (a .pre .0) (a .args .i) (c .before .place .result)
     (rw (c .before .before .before .before .spacing .ensures, c .before .before .before .before .before .other-key .ensures, c .before .before .before .before .before .before .record-of .ensures .0) at (c .before .place .ensures))
     (λ h. absurd (omega (arith, c .if1 .left, h)))
 

@@ -32,7 +32,7 @@ refused-at-requires c κs = search needs
 returns : tie.Need-returns
 unfolding splitTold split hasOther
 returns c =
-    let a = c .before .before .before .before .before .before .before .before .before .before .before in
+    let a = c .before .before .before .before .before .before .before .before .before .before in
     rw (← c .before .before .before .before .before .before .other-of .ensures, ← a .pre .0 .all, lt-ltb _ _ (c .before .before .before .before .before .if1 .taken), ← c .before .before .apart .ensures, c .before .if2 .taken) (c .refused-at .ensures)
 
 accepted-requires : tie.Need-accepted-requires
@@ -41,7 +41,7 @@ accepted-requires c κs = search needs
 returns-2 : tie.Need-returns-2
 unfolding splitTold split hasOther
 returns-2 c =
-    let a = c .before .before .before .before .before .before .before .before .before .before .before in
+    let a = c .before .before .before .before .before .before .before .before .before .before in
     rw (← c .before .before .before .before .before .before .other-of .ensures, ← a .pre .0 .all, lt-ltb _ _ (c .before .before .before .before .before .if1 .taken), ← c .before .before .apart .ensures, c .before .if2 .left) (c .accepted .ensures)
 
 accepted-requires-2 : tie.Need-accepted-requires-2
@@ -50,7 +50,7 @@ accepted-requires-2 c κs = search needs
 returns-3 : tie.Need-returns-3
 unfolding splitTold split hasOther
 returns-3 c =
-    let a = c .before .before .before .before .before .before .before in
+    let a = c .before .before .before .before .before .before in
     rw (← c .before .before .other-of .ensures, ← a .pre .0 .all, le-ltb _ _ (c .before .if1 .left)) (c .accepted2 .ensures)
 
 pub split-tells-spec : {M : Type 1} → statement M

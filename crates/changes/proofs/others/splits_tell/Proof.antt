@@ -11,10 +11,10 @@ use Rattle.changes.proofs.others.splits_tell.Statement.{statement}
 use Rattle.changes.proofs.others.splits_tell.Tie as tie
 
 abbrev Inv-loop : tie.InvT-loop
-Inv-loop file answers n numbers firsts i₀ i = (i ≤ n) × So-far (splitTold file answers) i
+Inv-loop file answers n links i₀ i = (i ≤ n) × So-far (splitTold file answers) i
 
 abbrev μ-loop : tie.MeasureT-loop
-μ-loop file answers n numbers firsts i₀ i = n - i
+μ-loop file answers n links i₀ i = n - i
 
 loop-holds : tie.Need-loop-holds Inv-loop μ-loop
 loop-holds c = (omega arith, least-start _)

@@ -16,10 +16,10 @@ use Rattle.consent.proofs.evidenced.enrolments_tell.Statement.{statemen
 use Rattle.consent.proofs.evidenced.enrolments_tell.Tie as tie
 
 abbrev Inv-loop : tie.InvT-loop
-Inv-loop enrolments evidence starts m numbers firsts marks₀ n i₀ marks i = (i ≤ n) × (n ≡ dataOf EB13 enrolments) × So-far (lacksTold enrolments evidence) i × (length marks ≡ length marks₀) × (marks ≡ markedTo enrolments evidence i marks₀)
+Inv-loop enrolments evidence starts m links marks₀ n i₀ marks i = (i ≤ n) × (n ≡ dataOf EB13 enrolments) × So-far (lacksTold enrolments evidence) i × (length marks ≡ length marks₀) × (marks ≡ markedTo enrolments evidence i marks₀)
 
 abbrev μ-loop : tie.MeasureT-loop
-μ-loop enrolments evidence starts m numbers firsts marks₀ n i₀ marks i = n - i
+μ-loop enrolments evidence starts m links marks₀ n i₀ marks i = n - i
 
 data-count-requires : tie.Need-data-count-requires Inv-loop μ-loop
 data-count-requires c κs = search needs
@@ -30,7 +30,7 @@ loop-holds c = (omega arith, c .data-count .ensures, least-start _, refl, sym (m
 enrolment-tells-requires : tie.Need-enrolment-tells-requires Inv-loop μ-loop
 enrolment-tells-requires c κs =
     let l = c .before .before .loop in
-    (omega (arith, l .inv .1, c .before .loop-test .taken), (c .before .before .before .before .before .before .before .before .before .before .pre .0, rw (l .inv .3) (c .before .before .before .before .before .before .before .before .before .before .pre .1)))
+    (omega (arith, l .inv .1, c .before .loop-test .taken), (c .before .before .before .before .before .before .before .before .before .pre .0, rw (l .inv .3) (c .before .before .before .before .before .before .before .before .before .pre .1)))
 
 same-length : tie.Need-same-length Inv-loop μ-loop
 same-length c = search needs
@@ -38,7 +38,7 @@ same-length c = search needs
 returns : tie.Need-returns Inv-loop μ-loop
 returns c =
     let l = c .before .before .before .before .before .before .before .loop in
-    let a = c .before .before .before .before .before .before .before .before .before .before .before .before .before .before .before .args in
+    let a = c .before .before .before .before .before .before .before .before .before .before .before .before .before .before .args in
     let k = c .before .before .before .before .enrolment-tells in
     let h : l .i < dataOf EB13 (a .enrolments .now) = omega (arith, l .inv .1, c .before .before .before .before .before .before .loop-test .taken) in
     let ne : lacksTold (a .enrolments .now) (a .evidence .now) (l .i) .number ≡ 0 → ⊥ = rw (← k .ensures .0) (c .if1 .taken) in (
@@ -55,7 +55,7 @@ loop-less c = search needs
 loop-again : tie.Need-loop-again Inv-loop μ-loop
 loop-again c =
     let l = c .before .before .before .before .before .before .before .loop in
-    let a = c .before .before .before .before .before .before .before .before .before .before .before .before .before .before .before .args in
+    let a = c .before .before .before .before .before .before .before .before .before .before .before .before .before .before .args in
     let k = c .before .before .before .before .enrolment-tells in (
       omega (arith, c .before .before .before .before .before .before .loop-test .taken),
       l .inv .1,
@@ -73,7 +73,7 @@ same-length-2 c = c .before .before .loop .inv .3
 returns-2 : tie.Need-returns-2 Inv-loop μ-loop
 returns-2 c =
     let l = c .before .before .loop in
-    let a = c .before .before .before .before .before .before .before .before .before .before .args in
+    let a = c .before .before .before .before .before .before .before .before .before .args in
     let n : l .i ≡ dataOf EB13 (a .enrolments .now) = le-antisymm (l .inv .0) (c .before .loop-test .left) ∙ l .inv .1 in
     let far : So-far (lacksTold (a .enrolments .now) (a .evidence .now)) (dataOf EB13 (a .enrolments .now)) = rw n at (l .inv .2) in
     (c .accepted .ensures ∙ sym (told-end (lacksTold (a .enrolments .now) (a .evidence .now)) (dataOf EB13 (a .enrolments .now)) far), rw (good-end (a .enrolments .now) (a .evidence .now) far, ← n) (l .inv .4))

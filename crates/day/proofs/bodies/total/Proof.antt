@@ -11,7 +11,7 @@ use Rattle.day.proofs.bodies.total.Tie as tie
 
 abbrev Inv-loop : tie.InvT-loop
 Inv-loop lengths n t₀ i₀ t i =
-    (i ≤ n) × (t ≡ sum (sizeAt lengths) i) × (t ≤ i * 100000)
+    (i ≤ n) × (t ≡ sum (sizeAt lengths) i) × (t ≤ i * 1000000)
 
 abbrev μ-loop : tie.MeasureT-loop
 μ-loop lengths n t₀ i₀ t i = n - i

@@ -6,6 +6,7 @@ use native.Mathlib.Omega.{arith}
 use Rattle.answers.proofs.Lies.{one-true}
 use Rattle.answers.proofs.OfDay.{day-number}
 use Rattle.day.specs.First.{Contents}
+use Rattle.day.proofs.Forms.{entries-small}
 use Rattle.day.proofs.Contained.{size-room, size-short}
 use Rattle.day.proofs.Told.{read-contents, shown-refused, shown-from, shown-nowhere}
 use borrow.Author.Needs.{needs}
@@ -37,47 +38,72 @@ is-one-requires c κs = search needs
 sub-i : tie.Need-sub-i
 sub-i c = one c .0
 
+width-in-requires : tie.Need-width-in-requires
+width-in-requires c κs = listed (c .before .before .before) .fewest
+
 lengths-requires : tie.Need-lengths-requires
 lengths-requires c κs =
-    rw (c .before .before .count .ensures .0) (listed (c .before .before .before) .few, listed (c .before .before .before) .whole)
-
-mul-start : tie.Need-mul-start
-mul-start c = search needs
+    let w = c .width-in .ensures in
+    let k = c .before .before .before in
+    let l = listed (k .before) in
+    (w .0, (w .1, rw (w .0, k .count .ensures .0) (l .few, l .whole)))
 
 add-start : tie.Need-add-start
 add-start c = search needs
+
+mul-start : tie.Need-mul-start
+mul-start c =
+    let w = c .before .width-in in
+    let n = c .before .before .before .before .count in
+    omega (arith, entries-small (w .result) (n .result) (w .ensures .1) (omega (arith, n .ensures .1)))
+
+add-start-2 : tie.Need-add-start-2
+add-start-2 c =
+    let w = c .before .width-in in
+    let n = c .before .before .before .before .count in
+    omega (arith, entries-small (w .result) (n .result) (w .ensures .1) (omega (arith, n .ensures .1)))
 
 slice-aggregate-total : tie.Need-slice-aggregate-total
 slice-aggregate-total c = search needs
 
 total-requires : tie.Need-total-requires
 total-requires c κs =
-    let k = c .before .before .before .before .count .ensures .0 in
-    let l = listed (c .before .before .before .before .before) in
-    let few = rw (← k) at (l .few) in
-    let last = one (c .before .before) .1 in
-    let s = c .before .before .before .before .before .before .before .before .before .args .file .now in
-    let n = c .before .before .before .before .count .result in
-    (omega (arith, few, last), (rw (c .before .lengths .ensures) (le-trans (omega (arith, last)) (size-room s n few)), λ i h. rw (c .before .lengths .ensures) (size-short s n (rw (← k) at (l .whole)) i (omega (arith, h, last)))))
+    let o = c .before .before .before in
+    let k = o .before .before in
+    let e = k .count .ensures .0 in
+    let l = listed (k .before) in
+    let few = rw (← e) at (l .few) in
+    let last = one o .1 in
+    let s = k .before .before .before .before .before .args .file .now in
+    let n = k .count .result in
+    let lengths = c .before .lengths .ensures in
+    (omega (arith, few, last), (rw lengths (le-trans (omega (arith, last)) (size-room s n few)), λ i h. rw lengths (size-short s n (rw (← e) at (l .whole)) i (omega (arith, h, last)))))
 
-add-start-2 : tie.Need-add-start-2
-add-start-2 c =
-    let k = c .before .before .before .before .before .count .ensures in omega (arith, k .1, c .total .ensures .1, one (c .before .before .before) .1)
+add-start-3 : tie.Need-add-start-3
+add-start-3 c =
+    let w = c .before .before .before .width-in in
+    let o = c .before .before .before .before in
+    let n = o .before .before .count in
+    omega (arith, entries-small (w .result) (n .result) (w .ensures .1) (omega (arith, n .ensures .1)), n .ensures .1, c .total .ensures .1, one o .1)
 
-mul-t14 : tie.Need-mul-t14
-mul-t14 c =
-    let k = c .before .before .before .before .before .count .ensures in omega (arith, k .1, one (c .before .before .before) .1)
+mul-t15 : tie.Need-mul-t15
+mul-t15 c =
+    let o = c .before .before .before .before in
+    omega (arith, o .before .before .count .ensures .1, one o .1)
 
-array-read-t12 : tie.Need-array-read-t12
-array-read-t12 c =
-    let few = rw (← c .before .before .before .before .before .count .ensures .0) at (listed (c .before .before .before .before .before .before) .few) in
-    omega (arith, few, one (c .before .before .before) .1, one (c .before .before .before) .0)
+array-read-t13 : tie.Need-array-read-t13
+array-read-t13 c =
+    let o = c .before .before .before .before in
+    let k = o .before .before in
+    let few = rw (← k .count .ensures .0) at (listed (k .before) .few) in
+    omega (arith, few, one o .1, one o .0)
 
 returns-2 : tie.Need-returns-2
 returns-2 c =
-    let e = c .before .before .before .before .before .before .before .before .look .ensures in
-    let k = c .before .before .before .before .before .count .ensures .0 in
-    rw e (shown-from _ _ _ _ _ (day-number (sym e) ∙ c .before .before .before .before .before .before .if1 .left) k (c .before .before .lengths .ensures) (c .total .ensures .0) (sym (c .before .before .before .before .is-one .ensures) ∙ c .before .before .before .if2 .taken))
+    let o = c .before .before .before .before in
+    let k = o .before .before in
+    let e = k .before .before .before .look .ensures in
+    rw e (shown-from _ _ _ _ _ _ (day-number (sym e) ∙ k .before .if1 .left) (c .before .before .before .width-in .ensures .0) (k .count .ensures .0) (c .before .before .lengths .ensures) (c .total .ensures .0) (sym (o .before .is-one .ensures) ∙ o .if2 .taken))
 
 returns-3 : tie.Need-returns-3
 returns-3 c =
@@ -93,13 +119,15 @@ body-spec =
     count-requires
     is-one-requires
     sub-i
+    width-in-requires
     lengths-requires
-    mul-start
     add-start
+    mul-start
+    add-start-2
     slice-aggregate-total
     total-requires
-    add-start-2
-    mul-t14
-    array-read-t12
+    add-start-3
+    mul-t15
+    array-read-t13
     returns-2
     returns-3)

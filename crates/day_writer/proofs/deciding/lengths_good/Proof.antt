@@ -31,7 +31,7 @@ shared-slice-read-if1 c = search needs
 returns : tie.Need-returns Inv-loop μ-loop
 unfolding tooLong sizeAt
 returns c =
-    let l = c .before .before .before .loop in sym (none-false _ (l .i) _ (c .before .before .loop-test .taken) (l .inv .1) (le-leb 100000 _ (c .if1 .taken)))
+    let l = c .before .before .before .loop in sym (none-false _ (l .i) _ (c .before .before .loop-test .taken) (l .inv .1) (le-leb 1000000 _ (c .if1 .taken)))
 
 add-i : tie.Need-add-i Inv-loop μ-loop
 add-i c = search needs
@@ -42,7 +42,7 @@ loop-less c = search needs
 loop-again : tie.Need-loop-again Inv-loop μ-loop
 unfolding tooLong sizeAt
 loop-again c =
-    let l = c .before .before .before .loop in (omega (arith, c .before .before .loop-test .taken), least-more _ (l .i) (l .inv .1) (lt-leb 100000 _ (c .if1 .left)))
+    let l = c .before .before .before .loop in (omega (arith, c .before .before .loop-test .taken), least-more _ (l .i) (l .inv .1) (lt-leb 1000000 _ (c .if1 .left)))
 
 returns-2 : tie.Need-returns-2 Inv-loop μ-loop
 returns-2 c =

@@ -11,6 +11,7 @@ use Rattle.laws.proofs.Stores.{stored-then, stored-none}
 use Rattle.day.specs.Contents.{front, entryAt}
 use Rattle.day.specs.Bodies.{sizeAt}
 use Rattle.day.specs.Meets.{entryOf}
+use Rattle.day.proofs.Forms.{entry-next}
 use Rattle.day.proofs.Filed.{entries-long}
 use Rattle.day_writer.specs.Writing.{nameOf}
 use borrow.Author.Needs.{needs}
@@ -18,21 +19,24 @@ use Rattle.day_writer.proofs.storing.put_entries.Statement.{statement}
 use Rattle.day_writer.proofs.storing.put_entries.Tie as tie
 
 abbrev Inv-loop : tie.InvT-loop
-Inv-loop names lengths room₀ i₀ room i =
-    (i ≤ length lengths) × (length room ≡ length room₀) × (room ≡ stored front (joined (entryOf (nameOf names) (sizeAt lengths)) i) room₀)
+Inv-loop width names lengths room₀ i₀ room i =
+    (i ≤ length lengths) × (length room ≡ length room₀) × (room ≡ stored front (joined (entryOf width (nameOf names) (sizeAt lengths)) i) room₀)
 
 abbrev μ-loop : tie.MeasureT-loop
-μ-loop names lengths room₀ i₀ room i = length lengths - i
+μ-loop width names lengths room₀ i₀ room i = length lengths - i
 
 loop-holds : tie.Need-loop-holds Inv-loop μ-loop
 loop-holds c =
     let a = c .before .before .before .args in
-    (omega arith, refl, rw (joined-start (entryOf (nameOf (a .names .now)) (sizeAt (a .lengths .now)))) (stored-none front (a .room .now)))
+    (omega arith, refl, rw (joined-start (entryOf (a .width) (nameOf (a .names .now)) (sizeAt (a .lengths .now)))) (stored-none front (a .room .now)))
 
 put-entry-requires : tie.Need-put-entry-requires Inv-loop μ-loop
 put-entry-requires c κs =
-    let p = c .before .before .before .before .before .before .pre in
-    (omega (arith, c .before .loop-test .taken), (p .0, (p .1 .0, omega (arith, c .before .loop-test .taken, p .1 .1, c .before .before .loop .inv .1))))
+    let a = c .before .before .before .before .before .before in
+    let p = a .pre in
+    let l = c .before .before .loop in
+    let next = entry-next (a .args .width) (length (a .args .lengths .now)) (l .i) (c .before .loop-test .taken) in
+    (p .0, (omega (arith, c .before .loop-test .taken), (p .1 .0, (p .1 .1 .0, omega (arith, next, p .1 .1 .1, l .inv .1)))))
 
 add-i : tie.Need-add-i Inv-loop μ-loop
 add-i c = search needs
@@ -46,11 +50,12 @@ loop-again c =
     let l = c .before .before .before .before .before .loop in
     let p = c .before .before .before .before .before .before .before .before .before in
     let a = p .args in
-    let entry = entryOf (nameOf (a .names .now)) (sizeAt (a .lengths .now)) in
-    let long = entries-long (nameOf (a .names .now)) (sizeAt (a .lengths .now)) (l .i) (λ j h. part-length (j * 8) 8 (a .names .now) (omega (arith, h, l .inv .0, p .pre .1 .0))) in (
+    let entry = entryOf (a .width) (nameOf (a .names .now)) (sizeAt (a .lengths .now)) in
+    let long = entries-long (nameOf (a .names .now)) (sizeAt (a .lengths .now)) (l .i) (λ j h. part-length (j * 8) 8 (a .names .now) (omega (arith, h, l .inv .0, p .pre .1 .1 .0))) (a .width) in
+    let next = entry-next (a .width) (length (a .lengths .now)) (l .i) (c .before .before .before .before .loop-test .taken) in (
       omega (arith, c .before .before .before .before .loop-test .taken),
       search needs,
-      rw (joined-more entry (l .i)) (stored-then front (entryAt (l .i)) (joined entry (l .i)) (entry (l .i)) (a .room .now) (l .room) _ (l .inv .2) (c .before .before .put-entry .ensures) (omega (arith, long)) (omega (arith, p .pre .1 .1))),
+      rw (joined-more entry (l .i)) (stored-then front (entryAt (a .width) (l .i)) (joined entry (l .i)) (entry (l .i)) (a .room .now) (l .room) _ (l .inv .2) (c .before .before .put-entry .ensures) (omega (arith, long)) (omega (arith, next, p .pre .1 .1 .1))),
     )
 
 same-length : tie.Need-same-length Inv-loop μ-loop

@@ -12,11 +12,14 @@ use borrow.Author.Needs.{needs}
 use Rattle.day_writer.proofs.storing.put_entry.Statement.{statement}
 use Rattle.day_writer.proofs.storing.put_entry.Tie as tie
 
+add-at : tie.Need-add-at
+add-at c = search needs
+
 mul-at : tie.Need-mul-at
 mul-at c = search needs
 
-add-at : tie.Need-add-at
-add-at c = search needs
+add-at-2 : tie.Need-add-at-2
+add-at-2 c = search needs
 
 mul-part : tie.Need-mul-part
 mul-part c = search needs
@@ -50,16 +53,18 @@ returns c =
     let a = c .before .before .before .before .before .before .before .before .before .before .before .before .before .args in
     let q = c .before .before .before .before .before .before .before .before .before .before .before .before .before .pre in
     let there = p .before .part .ensures in
-    let long = part-length (a .i * 8) 8 (a .names .now) (omega (arith, q .0, q .1 .1 .0)) in
-    stored-then (entryAt (a .i)) (entryAt (a .i) + 8) (nameOf (a .names .now) (a .i)) (digitsOf 5 (sizeAt (a .lengths .now) (a .i))) (a .room .now) (p .put .last .0) (d .put-digits .last .0)
-    (rw (← there .0) (p .put .ensures)) (d .put-digits .ensures) (omega (arith, long)) (omega (arith, q .1 .1 .1))
+    let long = part-length (a .i * 8) 8 (a .names .now) (omega (arith, q .1 .0, q .1 .1 .1 .0)) in
+    let at = entryAt (a .width) (a .i) in
+    stored-then at (at + 8) (nameOf (a .names .now) (a .i)) (digitsOf (a .width) (sizeAt (a .lengths .now) (a .i))) (a .room .now) (p .put .last .0) (d .put-digits .last .0)
+    (rw (← there .0) (p .put .ensures)) (d .put-digits .ensures) (omega (arith, long)) (omega (arith, q .1 .1 .1 .1))
 
 pub put-entry-spec : {M : Type 1} → statement M
 put-entry-spec =
     tie.close
     (tie.spec
-    mul-at
     add-at
+    mul-at
+    add-at-2
     mul-part
     part-requires
     put-requires

@@ -1,5 +1,5 @@
 -- By the family.
-use Rattle.dues.proofs.Readied.{ready-enrolment, ready-refused}
+use Rattle.dues.proofs.Readied.{ready-enrolment, ready-refused, ready-kept}
 use native.Mathlib.Omega.{arith}
 use mathlib.Core.Path.{_∙_}
 use borrow.Author.Needs.{needs}
@@ -23,9 +23,15 @@ ready-as-requires c κs = search needs
 
 returns : tie.Need-returns
 returns c =
-    let a = c .before .before .before .before .before .before .args in
-    c .unready .ensures ∙ rw (c .before .refused .ensures)
-    (ready-refused (a .kind) (a .request .now) (a .result .now) (a .dates) _ (ready-enrolment (a .kind) (a .request .now) (a .result .now) (a .dates) (a .pair) (c .before .before .before .before .before .before .pre) (c .before .before .enum-told .given .1)) (λ z. absurd (omega arith)))
+    let a = c .before .before .before .before .before .before .before .args in
+    let enrolment = c .before .before .enum-told .given .1 in (
+      λ kind named. c .unready .ensures ∙ rw (c .before .refused .ensures)
+          (ready-refused kind (a .request .now) (a .result .now) (a .dates) _ (ready-enrolment kind (a .request .now) (a .result .now) (a .dates) (a .pair) named enrolment) (λ z. absurd (omega arith))),
+      λ kind named. ready-kept kind (a .request .now) (a .result .now) (a .dates) _ (ready-enrolment kind (a .request .now) (a .result .now) (a .dates) (a .pair) named enrolment) (λ z. absurd (omega arith)) (a .taken .now),
+    )
+
+same-length : tie.Need-same-length
+same-length c = search needs
 
 returns-2 : tie.Need-returns-2
 returns-2 c = search needs
@@ -40,4 +46,5 @@ ready-in-spec =
     enum-told-2
     ready-as-requires
     returns
+    same-length
     returns-2)

@@ -7,12 +7,12 @@ use Rattle.edges.proofs.changes.start.Tie as tie
 
 mul-result : tie.Need-mul-result
 mul-result c =
-    let h : c .args .number * c .args .size ≤ 100000 * 100000 = mul-le-mul (c .pre .1) (c .pre .0) in
+    let h : c .args .number * c .args .size ≤ 1000000 * 1000000 = mul-le-mul (c .pre .1) (c .pre .0) in
     omega arith
 
 returns : tie.Need-returns
 returns c =
-    let h : c .args .number * c .args .size ≤ 100000 * 100000 = mul-le-mul (c .pre .1) (c .pre .0) in
+    let h : c .args .number * c .args .size ≤ 1000000 * 1000000 = mul-le-mul (c .pre .1) (c .pre .0) in
     omega arith
 
 pub start-spec : {M : Type 1} → statement M

@@ -1,4 +1,4 @@
--- The room is 65,536 bytes long, and no more of them are lent.
+-- The room is 327,680 bytes long, and no more of them are lent.
 use Prim.Native.Nat.{_≤_}
 use native.Mathlib.Omega.{arith}
 use lib.ListN.{length}

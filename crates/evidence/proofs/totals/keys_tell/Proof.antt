@@ -1,39 +1,34 @@
--- The places give the keys; the table is filled and searched, and told is whether there is a repeated key.
+-- The places give the keys; they are chained and searched, and told is whether there is a repeated key.
+use Prim.Native.Nat.{_+_}
+use Rattle.keys.proofs.Chained.{none-zeros}
+use Rattle.keys.specs.Chains.{slots}
+use Rattle.kinds.specs.Kinds.{limit}
 use Rattle.evidence.specs.Reading.{repeatTold}
 use Rattle.evidence.proofs.Within.{keys-inside, keys-by}
-use mathlib.Core.Path.{refl}
 use native.Mathlib.Omega.{arith}
 use borrow.Author.Tests.{lt-ltb, le-ltb}
 use borrow.Author.Needs.{needs}
 use Rattle.evidence.proofs.totals.keys_tell.Statement.{statement}
 use Rattle.evidence.proofs.totals.keys_tell.Tie as tie
 
-cast-firsts : tie.Need-cast-firsts
-cast-firsts c = search needs
+slice-aggregate-chain : tie.Need-slice-aggregate-chain
+slice-aggregate-chain c = search needs
 
-slice-aggregate-fill : tie.Need-slice-aggregate-fill
-slice-aggregate-fill c = search needs
-
-slice-aggregate-fill-2 : tie.Need-slice-aggregate-fill-2
-slice-aggregate-fill-2 c = search needs
-
-fill-requires : tie.Need-fill-requires
-fill-requires c κs =
-    let a = c .before .before .before .before in
+chain-requires : tie.Need-chain-requires
+unfolding slots
+chain-requires c κs =
+    let a = c .before .before .before in
     let p = a .pre in
-    (keys-inside (a .args .file .now) (a .args .places .now) (a .args .n) (p .1 .1 .0) (p .1 .1 .1), (p .0, (omega (arith, p .0), (omega arith, refl))))
+    (keys-inside (a .args .file .now) (a .args .places .now) (a .args .n) (p .1 .1 .0) (p .1 .1 .1), (omega (arith, p .0), (omega (arith, p .0), none-zeros (slots + limit))))
 
 slice-aggregate-first-repeat : tie.Need-slice-aggregate-first-repeat
 slice-aggregate-first-repeat c = search needs
 
-slice-aggregate-first-repeat-2 : tie.Need-slice-aggregate-first-repeat-2
-slice-aggregate-first-repeat-2 c = search needs
-
 first-repeat-requires : tie.Need-first-repeat-requires
 first-repeat-requires c κs =
-    let f = c .before .before .before .before in
-    let a = f .before .before .before .before .before in
-    (keys-inside (a .args .file .now) (a .args .places .now) (a .args .n) (a .pre .1 .1 .0) (a .pre .1 .1 .1), f .fill .ensures .1 .1)
+    let h = c .before .before in
+    let a = h .before .before .before .before in
+    (keys-inside (a .args .file .now) (a .args .places .now) (a .args .n) (a .pre .1 .1 .0) (a .pre .1 .1 .1), h .chain .ensures .1)
 
 add-refused-at : tie.Need-add-refused-at
 add-refused-at c = search needs
@@ -44,7 +39,7 @@ refused-at-requires c κs = search needs
 returns : tie.Need-returns
 unfolding repeatTold
 returns c =
-    let a = c .before .before .before .before .before .before .before .before .before .before .before .before in
+    let a = c .before .before .before .before .before .before .before .before .before in
     rw (← keys-by (a .args .file .now) (a .args .places .now) (a .args .n) (a .pre .1 .1 .0) _ (a .pre .1 .0) (c .before .before .first-repeat .ensures), lt-ltb _ _ (c .before .if1 .taken)) (c .refused-at .ensures)
 
 accepted-requires : tie.Need-accepted-requires
@@ -53,19 +48,16 @@ accepted-requires c κs = search needs
 returns-2 : tie.Need-returns-2
 unfolding repeatTold
 returns-2 c =
-    let a = c .before .before .before .before .before .before .before .before .before .before .before .before in
+    let a = c .before .before .before .before .before .before .before .before .before in
     rw (← keys-by (a .args .file .now) (a .args .places .now) (a .args .n) (a .pre .1 .1 .0) _ (a .pre .1 .0) (c .before .before .first-repeat .ensures), le-ltb _ _ (c .before .if1 .left)) (c .accepted .ensures)
 
 pub keys-tell-spec : {M : Type 1} → statement M
 keys-tell-spec =
     tie.close
     (tie.spec
-    cast-firsts
-    slice-aggregate-fill
-    slice-aggregate-fill-2
-    fill-requires
+    slice-aggregate-chain
+    chain-requires
     slice-aggregate-first-repeat
-    slice-aggregate-first-repeat-2
     first-repeat-requires
     add-refused-at
     refused-at-requires

@@ -1,5 +1,6 @@
 -- Byte by byte.
 use Rattle.evidence_kinds.specs.Evidence.{nameOf}
+use native.Mathlib.Omega.{arith}
 use borrow.Author.Needs.{needs}
 use Rattle.evidence_kinds.proofs.allowed.name.Statement.{statement}
 use Rattle.evidence_kinds.proofs.allowed.name.Tie as tie
@@ -60,19 +61,21 @@ add-result-4 c = search needs
 
 returns : tie.Need-returns
 unfolding nameOf
-returns c =
-    rw (
-      c .before .before .before .before .before .before .before .before .small .ensures .0,
-      c .before .before .before .before .before .before .before .before .before .byte .ensures .0,
-      c .before .before .before .before .before .before .small2 .ensures .0,
-      c .before .before .before .before .before .before .before .byte2 .ensures .0,
-      c .before .before .before .before .small3 .ensures .0,
-      c .before .before .before .before .before .byte3 .ensures .0,
-      c .before .before .small4 .ensures .0,
-      c .before .before .before .byte4 .ensures .0,
-      c .small5 .ensures .0,
-      c .before .byte5 .ensures .0,
-    )
+returns c = (
+  rw (
+    c .before .before .before .before .before .before .before .before .small .ensures .0,
+    c .before .before .before .before .before .before .before .before .before .byte .ensures .0,
+    c .before .before .before .before .before .before .small2 .ensures .0,
+    c .before .before .before .before .before .before .before .byte2 .ensures .0,
+    c .before .before .before .before .small3 .ensures .0,
+    c .before .before .before .before .before .byte3 .ensures .0,
+    c .before .before .small4 .ensures .0,
+    c .before .before .before .byte4 .ensures .0,
+    c .small5 .ensures .0,
+    c .before .byte5 .ensures .0,
+  ),
+  omega (arith, c .before .before .before .before .before .before .before .before .small .ensures .1, c .before .before .before .before .before .before .small2 .ensures .1, c .before .before .before .before .small3 .ensures .1, c .before .before .small4 .ensures .1, c .small5 .ensures .1),
+)
 
 pub name-spec : {M : Type 1} → statement M
 name-spec =

@@ -1,11 +1,10 @@
--- Cleared, then one key after the other.
+-- One key after the other.
 use Prim.Native.Nat.{_-_, _≤_, zero-le}
-use Rattle.keys.proofs.Chained.{links-start, links-more, links-cleared, none-length, with-length}
+use Rattle.keys.proofs.Chained.{links-start, links-more, links-length, chained}
 use Rattle.keys.specs.Chains.{linksOf}
 use Rattle.keys.specs.Stands.{keyIn}
 use lib.ListN.{length}
-use mathlib.Core.List.{[]}
-use mathlib.Core.Path.{_≡_, refl, sym, _∙_, ap}
+use mathlib.Core.Path.{_≡_, sym, _∙_, ap}
 use native.Mathlib.Nat.{le-antisymm}
 use native.Mathlib.Numerals.{add-one-le}
 use native.Mathlib.Omega.{arith}
@@ -15,54 +14,49 @@ use Rattle.keys.proofs.chains.chain.Statement.{statement}
 use Rattle.keys.proofs.chains.chain.Tie as tie
 
 abbrev Inv-loop : tie.InvT-loop
-Inv-loop s spacing n links₀ none i₀ links i = (i ≤ n) × (length links ≡ length links₀) × (links ≡ linksOf (keyIn [] spacing s) i links₀)
+Inv-loop s places spacing n links₀ i₀ links i = (i ≤ n) × (links ≡ linksOf (keyIn places spacing s) i links₀)
 
 abbrev μ-loop : tie.MeasureT-loop
-μ-loop s spacing n links₀ none i₀ links i = n - i
-
-clear-requires : tie.Need-clear-requires Inv-loop μ-loop
-clear-requires c κs = tt
+μ-loop s places spacing n links₀ i₀ links i = n - i
 
 loop-holds : tie.Need-loop-holds Inv-loop μ-loop
-loop-holds c = (zero-le, refl, links-start _ _ _ (c .before .before .clear .ensures))
-
-slice-aggregate-key-in : tie.Need-slice-aggregate-key-in Inv-loop μ-loop
-slice-aggregate-key-in c = search needs
+loop-holds c = (zero-le, links-start _ _ (c .before .before .before .pre .1 .1 .1))
 
 key-in-requires : tie.Need-key-in-requires Inv-loop μ-loop
-key-in-requires c κs = c .before .before .before .before .before .before .before .before .before .pre .0 (c .before .before .loop .i) (c .before .loop-test .taken)
+key-in-requires c κs = c .before .before .before .before .before .pre .0 (c .before .loop .i) (c .loop-test .taken)
 
 join-requires : tie.Need-join-requires Inv-loop μ-loop
 join-requires c κs =
-    let t = c .before .before .before in
+    let t = c .before .before in
     let l = t .before .loop in
-    let f = l .inv .1 ∙ (ap length (t .before .before .before .before .clear .ensures) ∙ none-length _) in
-    let p = t .before .before .before .before .before .before .before .before in
-    (omega (arith, t .loop-test .taken, p .pre .1 .0), rw f (omega (arith, t .loop-test .taken, p .pre .1 .1)))
+    let p = t .before .before .before .before .before in
+    (omega (arith, t .loop-test .taken, p .pre .1 .0), rw (l .inv .1, links-length) (omega (arith, t .loop-test .taken, p .pre .1 .1 .0)))
 
 add-i : tie.Need-add-i Inv-loop μ-loop
 add-i c = search needs
 
 loop-less : tie.Need-loop-less Inv-loop μ-loop
-loop-less c = falls _ _ (c .before .before .before .before .before .before .loop-test .taken)
+loop-less c = falls _ _ (c .before .before .before .before .before .loop-test .taken)
 
 loop-again : tie.Need-loop-again Inv-loop μ-loop
 loop-again c =
     let j = c .before .before in
-    let t = j .before .before .before .before in
-    let l = t .before .loop in (
-      add-one-le (t .loop-test .taken),
-      ap length (j .join .ensures) ∙ (with-length _ (l .i) (l .links) ∙ l .inv .1),
-      j .join .ensures ∙ rw (j .before .before .key-in .ensures, l .inv .2) (sym (links-more _ (l .i) _)),
-    )
+    let t = j .before .before .before in
+    let l = t .before .loop in
+    (add-one-le (t .loop-test .taken), j .join .ensures ∙ rw (j .before .before .key-in .ensures, l .inv .1) (sym (links-more _ (l .i) _)))
 
 same-length : tie.Need-same-length Inv-loop μ-loop
-same-length c = search needs
+same-length c =
+    let l = c .before .loop in
+    let e = ap length (l .inv .1) ∙ links-length _ (l .i) _ in
+    search needs
 
 returns : tie.Need-returns Inv-loop μ-loop
 returns c =
     let l = c .before .loop in
-    rw (le-antisymm (c .loop-test .left) (l .inv .0)) (l .inv .2) ∙ links-cleared _ _ _ _ (c .before .before .before .before .clear .ensures)
+    let p = c .before .before .before .before .before in
+    let e = rw (← le-antisymm (c .loop-test .left) (l .inv .0)) at (l .inv .1) in
+    (e, rw e (chained _ _ _ (p .pre .1 .1 .0)))
 
 pub chain-spec : {M : Type 1} → statement M
 chain-spec =
@@ -70,9 +64,7 @@ chain-spec =
     (tie.spec
     Inv-loop
     μ-loop
-    clear-requires
     loop-holds
-    slice-aggregate-key-in
     key-in-requires
     join-requires
     add-i

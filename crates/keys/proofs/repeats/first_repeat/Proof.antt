@@ -1,12 +1,14 @@
--- The inner search looks for the key among the earlier ones, from its slot on; the outer one for the first that is there.
-use Prim.Native.Nat.{_≤_, _-_, _<_, zero-le}
-use Rattle.laws.proofs.Leasts.{least-start, least-more, least-stop, some-true, some-false}
+-- The inner search looks for the key among the earlier ones, along its chain; the outer one for the first that is there.
+use Prim.Native.Nat.{_+_, _≤_, _-_, _<_, zero-le}
+use Rattle.laws.proofs.Leasts.{least-start, least-more, least-stop}
 use Rattle.laws.specs.Least.{least}
-use Rattle.keys.proofs.Starts.{slot-early, shares-from}
-use Rattle.keys.specs.Keys.{sharesIn, repeatsIn}
+use Rattle.keys.proofs.Chained.{link-before, link-more, link-less, along-before, along-stop, along-more, slot-here}
+use Rattle.keys.proofs.Searched.{repeats-found, repeats-none}
+use Rattle.keys.specs.Chains.{slots, last, slotOf, Link}
+use Rattle.keys.specs.Keys.{repeatsIn, hasKeyIn}
 use Rattle.keys.specs.Stands.{keyIn}
-use mathlib.Core.Path.{_≡_, sym}
-use native.Mathlib.Nat.{le-antisymm, le-trans, lt-trans}
+use mathlib.Core.Path.{_≡_, sym, _∙_}
+use native.Mathlib.Nat.{le-antisymm}
 use native.Mathlib.Numerals.{add-one-le}
 use native.Mathlib.Omega.{arith}
 use borrow.Author.Count.{falls}
@@ -15,118 +17,120 @@ use Rattle.keys.proofs.repeats.first_repeat.Statement.{statement}
 use Rattle.keys.proofs.repeats.first_repeat.Tie as tie
 
 abbrev Inv-loop : tie.InvT-loop
-Inv-loop s places spacing n numbers firsts i key hash b j₀ j =
-    (j ≤ i) × (i < n) × (key ≡ keyIn places spacing s i) × (least (repeatsIn (keyIn places spacing s)) i ≡ i) × (least (sharesIn (keyIn places spacing s) i) j ≡ j)
+Inv-loop s places spacing n links i key at₀ at =
+    (i < n) × (keyIn places spacing s i ≡ key) × (least (repeatsIn (keyIn places spacing s)) i ≡ i) × (last (hasKeyIn (keyIn places spacing s) key) i ≡ last (hasKeyIn (keyIn places spacing s) key) at) × Link (keyIn places spacing s) n (slotOf key) at
 
 abbrev μ-loop : tie.MeasureT-loop
-μ-loop s places spacing n numbers firsts i key hash b j₀ j = i - j
+μ-loop s places spacing n links i key at₀ at = at
 
 abbrev Inv-search : tie.InvT-search
-Inv-search s places spacing n numbers firsts i₀ i = (i ≤ n) × (least (repeatsIn (keyIn places spacing s)) i ≡ i)
+Inv-search s places spacing n links i₀ i = (i ≤ n) × (least (repeatsIn (keyIn places spacing s)) i ≡ i)
 
 abbrev μ-search : tie.MeasureT-search
-μ-search s places spacing n numbers firsts i₀ i = n - i
+μ-search s places spacing n links i₀ i = n - i
 
 search-holds : tie.Need-search-holds Inv-loop μ-loop Inv-search μ-search
 search-holds c = (zero-le, least-start _)
 
 key-in-requires : tie.Need-key-in-requires Inv-loop μ-loop Inv-search μ-search
 key-in-requires c κs =
-    let p = c .before .before .before .before .before .before in
+    let p = c .before .before .before .before .before in
     p .pre .0 (c .before .search .i) (c .search-test .taken)
 
-mul-hash : tie.Need-mul-hash Inv-loop μ-loop Inv-search μ-search
-mul-hash c =
-    let p = c .before .before .before .before .before .before .before in
-    let below = le-trans (c .before .search-test .taken) (p .pre .1 .room) in
-    search needs
+add-at : tie.Need-add-at Inv-loop μ-loop Inv-search μ-search
+add-at c = search needs
 
-shared-slice-read-hash : tie.Need-shared-slice-read-hash Inv-loop μ-loop Inv-search μ-search
-shared-slice-read-hash c =
-    let p = c .before .before .before .before .before .before .before .before in
-    le-trans (c .before .before .search-test .taken) (p .pre .1 .room)
+mul-at : tie.Need-mul-at Inv-loop μ-loop Inv-search μ-search
+mul-at c = search needs
 
-slot-requires : tie.Need-slot-requires Inv-loop μ-loop Inv-search μ-search
-slot-requires c κs = c .before .before .before .before .before .before .before .before .pre .1 .wide
+shared-slice-read-at : tie.Need-shared-slice-read-at Inv-loop μ-loop Inv-search μ-search
+unfolding slots
+shared-slice-read-at c =
+    let t = c .before .before in
+    let p = t .before .before .before .before .before in
+    omega (arith, t .search-test .taken, p .pre .1 .room)
 
-mul-j : tie.Need-mul-j Inv-loop μ-loop Inv-search μ-search
-mul-j c = search needs
-
-shared-slice-read-j : tie.Need-shared-slice-read-j Inv-loop μ-loop Inv-search μ-search
-shared-slice-read-j c = c .before .slot .ensures .1
-
-cast-j : tie.Need-cast-j Inv-loop μ-loop Inv-search μ-search
-cast-j c = record { fits = omega (arith, c .shared-slice-known6 .given (c .before .slot .result)) }
+cast-at : tie.Need-cast-at Inv-loop μ-loop Inv-search μ-search
+unfolding slots
+cast-at c = record { fits = omega (arith, c .shared-slice-known4 .given (slots + c .before .before .before .search .i)) }
 
 loop-holds : tie.Need-loop-holds Inv-loop μ-loop Inv-search μ-search
+unfolding slots
 loop-holds c =
-    let t = c .before .before .before .before in
+    let t = c .before .before in
     let i = t .before .search .i in
-    let p = t .before .before .before .before .before .before in
-    let h = p .pre .1 .numbered i (t .search-test .taken) in (
-      rw (c .before .slot .ensures .0) (slot-early _ _ _ _ (p .pre .1) i _ h),
+    let p = t .before .before .before .before .before in
+    let k = sym (c .before .key-in .ensures) in
+    let b = slot-here _ _ i k in (
       t .search-test .taken,
-      c .before .before .before .key-in .ensures,
+      k,
       t .before .search .inv .1,
-      rw (c .before .slot .ensures .0) (shares-from _ _ _ _ (p .pre .1) i _ h),
+      along-before _ _ _ (p .pre .1) _ i (t .search-test .taken) b,
+      link-before _ _ _ (p .pre .1) _ i (t .search-test .taken) b,
     )
+
+sub-j : tie.Need-sub-j Inv-loop μ-loop Inv-search μ-search
+sub-j c = search needs
 
 key-in-requires-2 : tie.Need-key-in-requires-2 Inv-loop μ-loop Inv-search μ-search
 key-in-requires-2 c κs =
-    let p = c .before .before .before .before .before .before .before .before .before .before .before .before in
-    p .pre .0 (c .before .loop .j) (lt-trans (c .loop-test .taken) (c .before .loop .inv .1))
+    let l = c .before .loop in
+    let p = c .before .before .before .before .before .before .before .before .before in
+    p .pre .0 (l .at - 1) (omega (arith, c .loop-test .taken, l .inv .4 .within))
 
-mul-alike : tie.Need-mul-alike Inv-loop μ-loop Inv-search μ-search
-mul-alike c =
-    let l = c .before .before in
-    let p = l .before .before .before .before .before .before .before .before .before .before .before in
-    let below = le-trans (lt-trans (c .before .loop-test .taken) (l .loop .inv .1)) (p .pre .1 .room) in
-    search needs
+same-requires : tie.Need-same-requires Inv-loop μ-loop Inv-search μ-search
+same-requires c κs = search needs
 
-shared-slice-read-alike : tie.Need-shared-slice-read-alike Inv-loop μ-loop Inv-search μ-search
-shared-slice-read-alike c =
-    let l = c .before .before .before in
-    let p = l .before .before .before .before .before .before .before .before .before .before .before in
-    le-trans (lt-trans (c .before .before .loop-test .taken) (l .loop .inv .1)) (p .pre .1 .room)
+add-at-2 : tie.Need-add-at-2 Inv-loop μ-loop Inv-search μ-search
+add-at-2 c = search needs
 
-alike-requires : tie.Need-alike-requires Inv-loop μ-loop Inv-search μ-search
-alike-requires c κs =
-    let l = c .before .before .before in
-    let i = l .before .before .before .before .before .before .search .i in
-    let p = l .before .before .before .before .before .before .before .before .before .before .before in (
-      rw (l .loop .inv .2) (p .pre .1 .numbered i (l .loop .inv .1)),
-      rw (c .before .key-in2 .ensures) (p .pre .1 .numbered (l .loop .j) (lt-trans (c .before .before .loop-test .taken) (l .loop .inv .1))),
-    )
+mul-at-2 : tie.Need-mul-at-2 Inv-loop μ-loop Inv-search μ-search
+mul-at-2 c = search needs
 
-add-j : tie.Need-add-j Inv-loop μ-loop Inv-search μ-search
-add-j c = search needs
+shared-slice-read-at-2 : tie.Need-shared-slice-read-at-2 Inv-loop μ-loop Inv-search μ-search
+unfolding slots
+shared-slice-read-at-2 c =
+    let t = c .before .before .before .before in
+    let l = t .before .loop in
+    let p = t .before .before .before .before .before .before .before .before .before in
+    omega (arith, t .loop-test .taken, l .inv .4 .within, p .pre .1 .room)
+
+cast-at-2 : tie.Need-cast-at-2 Inv-loop μ-loop Inv-search μ-search
+unfolding slots
+cast-at-2 c = record { fits = omega (arith, c .shared-slice-known5 .given (slots + (c .before .before .before .before .before .loop .at - 1))) }
 
 loop-less : tie.Need-loop-less Inv-loop μ-loop Inv-search μ-search
-loop-less c = falls _ _ (c .before .before .before .before .loop-test .taken)
+unfolding slots
+loop-less c =
+    let t = c .before .before .before .before in
+    let l = t .before .loop in
+    let p = t .before .before .before .before .before .before .before .before .before in
+    link-less _ _ _ (p .pre .1) (l .at) (t .loop-test .taken) (l .inv .4 .within)
 
 loop-again : tie.Need-loop-again Inv-loop μ-loop Inv-search μ-search
-unfolding sharesIn
+unfolding slots hasKeyIn
 loop-again c =
-    let l = c .before .before .before .before .before .loop in (
-      add-one-le (c .before .before .before .before .loop-test .taken),
+    let t = c .before .before .before .before in
+    let l = t .before .loop in
+    let p = t .before .before .before .before .before .before .before .before .before in (
+      l .inv .0,
       l .inv .1,
       l .inv .2,
-      l .inv .3,
-      least-more _ (l .j) (l .inv .4) (rw (← l .inv .2, ← c .before .before .before .key-in2 .ensures, ← c .before .alike .ensures) (c .if1 .left)),
+      l .inv .3 ∙ along-more _ _ _ (p .pre .1) (l .at) (t .loop-test .taken) _ (l .inv .4) (rw (← c .before .before .before .key-in2 .ensures, ← c .before .before .same .ensures) (c .before .if1 .left)),
+      link-more _ _ _ (p .pre .1) (l .at) (t .loop-test .taken) _ (l .inv .4),
     )
 
 add-i : tie.Need-add-i Inv-loop μ-loop Inv-search μ-search
 add-i c = search needs
 
 search-less : tie.Need-search-less Inv-loop μ-loop Inv-search μ-search
-search-less c = falls _ _ (c .before .loop .inv .1)
+search-less c = falls _ _ (c .before .loop .inv .0)
 
 search-again : tie.Need-search-again Inv-loop μ-loop Inv-search μ-search
-unfolding repeatsIn
 search-again c =
     let l = c .before .loop in
-    let i = c .before .before .before .before .before .before .before .search .i in
-    (add-one-le (l .inv .1), least-more _ i (l .inv .3) (some-false _ i (rw (le-antisymm (l .inv .0) (c .loop-test .left)) at (l .inv .4))))
+    let i = c .before .before .before .before .before .search .i in
+    (add-one-le (l .inv .0), least-more _ i (l .inv .2) (repeats-none _ i (l .at) (c .loop-test .left) (rw (l .inv .1) (l .inv .3))))
 
 returns : tie.Need-returns Inv-loop μ-loop Inv-search μ-search
 returns c =
@@ -134,11 +138,14 @@ returns c =
     sym (rw (le-antisymm (c .search-test .left) (l .inv .0)) (l .inv .1))
 
 returns-2 : tie.Need-returns-2 Inv-loop μ-loop Inv-search μ-search
-unfolding repeatsIn sharesIn
+unfolding hasKeyIn
 returns-2 c =
-    let l = c .before .before .before .before .before in
-    let i = l .before .before .before .before .before .before .search .i in
-    sym (least-stop _ i _ (l .loop .inv .1) (l .loop .inv .3) (some-true _ i (l .loop .j) (c .before .before .before .before .loop-test .taken) (rw (← l .loop .inv .2, ← c .before .before .before .key-in2 .ensures, ← c .before .alike .ensures) (c .if1 .taken))))
+    let t = c .before .before .before in
+    let l = t .before .loop in
+    let i = t .before .before .before .before .before .search .i in
+    let p = t .before .before .before .before .before .before .before .before .before in
+    let left = t .loop-test .taken in
+    sym (least-stop _ i _ (l .inv .0) (l .inv .2) (repeats-found _ i (l .at) left (rw (l .inv .1) (l .inv .3 ∙ along-stop _ _ _ (p .pre .1) (l .at) left _ (rw (← c .before .before .key-in2 .ensures, ← c .before .same .ensures) (c .if1 .taken))))))
 
 pub first-repeat-spec : {M : Type 1} → statement M
 first-repeat-spec =
@@ -150,18 +157,18 @@ first-repeat-spec =
     μ-search
     search-holds
     key-in-requires
-    mul-hash
-    shared-slice-read-hash
-    slot-requires
-    mul-j
-    shared-slice-read-j
-    cast-j
+    add-at
+    mul-at
+    shared-slice-read-at
+    cast-at
     loop-holds
+    sub-j
     key-in-requires-2
-    mul-alike
-    shared-slice-read-alike
-    alike-requires
-    add-j
+    same-requires
+    add-at-2
+    mul-at-2
+    shared-slice-read-at-2
+    cast-at-2
     loop-less
     loop-again
     add-i

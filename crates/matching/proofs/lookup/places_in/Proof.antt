@@ -1,26 +1,24 @@
--- The table is filled, then every key is looked up in it.
-use mathlib.Core.Path.{refl}
+-- The keys are chained, then every key is looked up along its chain.
+use Prim.Native.Nat.{_+_}
+use Rattle.keys.proofs.Chained.{none-zeros}
+use Rattle.keys.specs.Chains.{slots}
+use Rattle.kinds.specs.Kinds.{limit}
 use native.Mathlib.Omega.{arith}
 use borrow.Author.Needs.{needs}
 use Rattle.matching.proofs.lookup.places_in.Statement.{statement}
 use Rattle.matching.proofs.lookup.places_in.Tie as tie
 
-cast-firsts : tie.Need-cast-firsts
-cast-firsts c = search needs
+slice-aggregate-chain : tie.Need-slice-aggregate-chain
+slice-aggregate-chain c = search needs
 
-slice-aggregate-fill : tie.Need-slice-aggregate-fill
-slice-aggregate-fill c = search needs
+slice-aggregate-chain-2 : tie.Need-slice-aggregate-chain-2
+slice-aggregate-chain-2 c = search needs
 
-slice-aggregate-fill-2 : tie.Need-slice-aggregate-fill-2
-slice-aggregate-fill-2 c = search needs
-
-slice-aggregate-fill-3 : tie.Need-slice-aggregate-fill-3
-slice-aggregate-fill-3 c = search needs
-
-fill-requires : tie.Need-fill-requires
-fill-requires c κs =
-    let p = c .before .before .before .before .before .before .pre in
-    (p .1 .0, (p .0, (omega (arith, p .0), (omega arith, refl))))
+chain-requires : tie.Need-chain-requires
+unfolding slots
+chain-requires c κs =
+    let p = c .before .before .before .before .before .pre in
+    (p .1 .0, (omega (arith, p .0), (omega (arith, p .0), none-zeros (slots + limit))))
 
 slice-aggregate-places : tie.Need-slice-aggregate-places
 slice-aggregate-places c = search needs
@@ -31,11 +29,11 @@ slice-aggregate-places-2 c = search needs
 slice-aggregate-places-3 : tie.Need-slice-aggregate-places-3
 slice-aggregate-places-3 c = search needs
 
-slice-aggregate-places-4 : tie.Need-slice-aggregate-places-4
-slice-aggregate-places-4 c = search needs
-
 places-requires : tie.Need-places-requires
-places-requires c κs = search needs
+places-requires c κs =
+    let h = c .before .before .before .before .before in
+    let p = h .before .before .before .before .before .before .pre in
+    (p .1 .0, (h .chain .ensures .1, (p .1 .1 .0, (omega (arith, p .0), p .1 .1 .1))))
 
 same-length : tie.Need-same-length
 same-length c = search needs
@@ -47,15 +45,12 @@ pub places-in-spec : {M : Type 1} → statement M
 places-in-spec =
     tie.close
     (tie.spec
-    cast-firsts
-    slice-aggregate-fill
-    slice-aggregate-fill-2
-    slice-aggregate-fill-3
-    fill-requires
+    slice-aggregate-chain
+    slice-aggregate-chain-2
+    chain-requires
     slice-aggregate-places
     slice-aggregate-places-2
     slice-aggregate-places-3
-    slice-aggregate-places-4
     places-requires
     same-length
     returns)

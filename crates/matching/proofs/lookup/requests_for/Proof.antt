@@ -3,6 +3,8 @@ use Rattle.matching.specs.Matching.{requestsFor}
 use Rattle.reader.proofs.Places.{first-fits, key-fits}
 use Rattle.kinds.specs.Pairs.{requestKind, resultKind}
 use native.Mathlib.Omega.{arith}
+use Rattle.matching.proofs.Found.{zeros}
+use Rattle.kinds.specs.Kinds.{limit}
 use borrow.Author.Needs.{needs}
 use Rattle.matching.proofs.lookup.requests_for.Statement.{statement}
 use Rattle.matching.proofs.lookup.requests_for.Tie as tie
@@ -44,7 +46,7 @@ places-in-requires c κs =
       omega (arith, p .pre .1 .0),
       (
         key-fits (requestKind (a .pair)) (a .request .now) _ (omega (arith, p .pre .0)),
-        key-fits (resultKind (a .pair)) (a .result .now) _ (omega (arith, p .pre .1 .1)),
+        (key-fits (resultKind (a .pair)) (a .result .now) _ (omega (arith, p .pre .1 .1)), zeros limit),
       ),
     )
 

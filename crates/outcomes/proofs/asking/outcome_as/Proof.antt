@@ -1,6 +1,6 @@
 -- The pair's answer, then whether there is such a request.
 use Rattle.answers.proofs.Refusals.{refuses-is, refuses-not}
-use Rattle.matching.proofs.Found.{result-of}
+use Rattle.matching.proofs.Found.{result-of, result-fits}
 use Rattle.outcomes.proofs.Outcome.{asks-for-is, asked-for}
 use Rattle.outcomes.specs.Outcomes.{outcomeAs}
 use Prim.Native.Nat.{_-_}
@@ -57,6 +57,14 @@ array-read-outcome-at c =
     let a = p .before .before .before .args in
     let asked = asked-for (a .pair) (a .request .now) (a .result .now) (a .rec) _ _ _ _ (p .pair-by .ensures) (n .before .before .if1 .left) (n .before .request-kind .ensures) (n .data-count .ensures) (c .before .before .asks-for .ensures) (c .before .if2 .taken) in
     asked .below
+
+cast-outcome-at : tie.Need-cast-outcome-at
+cast-outcome-at c =
+    let n = c .before .before .before in
+    let p = n .before .before .before .before in
+    let a = p .before .before .before .args in
+    let asked = asked-for (a .pair) (a .request .now) (a .result .now) (a .rec) _ _ _ _ (p .pair-by .ensures) (n .before .before .if1 .left) (n .before .request-kind .ensures) (n .data-count .ensures) (c .before .before .asks-for .ensures) (c .before .if2 .taken) in
+    result-fits (a .pair) (a .request .now) (a .result .now) _ (c .results-for .ensures) (omega (arith, asked .requests .most)) (omega (arith, asked .results .most)) (a .rec - 1) (asked .inside)
 
 outcome-at-requires : tie.Need-outcome-at-requires
 outcome-at-requires c κs =
@@ -122,6 +130,7 @@ outcome-as-spec =
     results-for-requires
     mul-outcome-at
     array-read-outcome-at
+    cast-outcome-at
     outcome-at-requires
     accepted-requires
     told-requires-2

@@ -44,6 +44,9 @@ shared-slice-read-not-taken-by c =
     let b = c .before .before .before .before .before .before .before .before .before in
     rw (b .pre .1, results-length (b .args .pair) (b .args .request .now) (b .args .result .now)) (omega (arith, b .pre .0, c .before .before .before .loop .inv .1, c .before .before .loop-test .taken))
 
+cast-not-taken-by : tie.Need-cast-not-taken-by Inv-loop μ-loop
+cast-not-taken-by c = record { fits = omega (arith, c .shared-slice-known4 .given (c .before .before .before .loop .i)) }
+
 not-taken-by-requires : tie.Need-not-taken-by-requires Inv-loop μ-loop
 not-taken-by-requires c κs = search needs
 
@@ -102,6 +105,7 @@ sums-of-spec =
     asked-at-requires
     mul-not-taken-by
     shared-slice-read-not-taken-by
+    cast-not-taken-by
     not-taken-by-requires
     add-asked
     rest-requires

@@ -2,7 +2,7 @@
 use Prim.Native.Nat.{_≤_, _-_}
 use Rattle.laws.proofs.Tabs.{fill-start, fill-more}
 use Rattle.laws.specs.Tabulate.{tabulate}
-use Rattle.matching.proofs.Found.{left-of}
+use Rattle.matching.proofs.Found.{left-of, result-fits}
 use Rattle.matching.specs.Amounts.{takenAt, notTakenAt}
 use Rattle.kinds.specs.Pairs.{requestKind}
 use Rattle.records.specs.Records.{dataOf}
@@ -44,6 +44,15 @@ mul-not-taken-by c = search needs
 
 array-read-not-taken-by : tie.Need-array-read-not-taken-by Inv-loop μ-loop
 array-read-not-taken-by c = search needs
+
+cast-not-taken-by : tie.Need-cast-not-taken-by Inv-loop μ-loop
+cast-not-taken-by c =
+    let l = c .before .loop in
+    let x = c .before .before in
+    let b = x .before .before .before .before .before .before .before in
+    let a = b .args in
+    let p = b .pre .1 in
+    result-fits (a .pair) (a .request .now) (a .result .now) _ (x .results-for .ensures) (omega (arith, p .0)) (omega (arith, p .1 .1 .0)) (l .i) (omega (arith, l .inv .1, c .loop-test .taken))
 
 not-taken-by-requires : tie.Need-not-taken-by-requires Inv-loop μ-loop
 not-taken-by-requires c κs = search needs
@@ -114,6 +123,7 @@ fill-spec =
     loop-holds
     mul-not-taken-by
     array-read-not-taken-by
+    cast-not-taken-by
     not-taken-by-requires
     asked-at-requires
     rest-requires

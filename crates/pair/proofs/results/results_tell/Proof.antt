@@ -36,6 +36,9 @@ shared-slice-read-result-tells c =
     let b = c .before .before .before .before .before .before .before .before in
     rw (b .pre .1, requests-length (b .args .pair) (b .args .request .now) (b .args .result .now)) (omega (arith, b .pre .0, c .before .before .loop .inv .1, c .before .loop-test .taken))
 
+cast-result-tells : tie.Need-cast-result-tells Inv-loop μ-loop
+cast-result-tells c = record { fits = omega (arith, c .shared-slice-known4 .given (c .before .before .loop .j)) }
+
 result-tells-requires : tie.Need-result-tells-requires Inv-loop μ-loop
 result-tells-requires c κs =
     let b = c .before .before .before .before .before .before .before .before in
@@ -84,6 +87,7 @@ results-tell-spec =
     loop-holds
     mul-result-tells
     shared-slice-read-result-tells
+    cast-result-tells
     result-tells-requires
     returns
     add-j

@@ -1,5 +1,5 @@
 -- A refusal or all lines.
-use Rattle.posting.proofs.Posted.{text-refused, text-accepted, posted-known}
+use Rattle.posting.proofs.Posted.{text-refused, text-accepted, posted-short, posted-known}
 use mathlib.Core.Path.{_∙_}
 use native.Mathlib.Nat.{zero-add}
 use borrow.Author.Needs.{needs}
@@ -35,7 +35,7 @@ put-all-requires : tie.Need-put-all-requires
 put-all-requires c κs =
     let t = c .before .before .before .before .before .post-tells in
     let known = posted-known _ _ (t .result) (t .ensures) (c .before .before .before .if1 .left) in
-    (known .request .lengths .most, (c .before .before .results-for .ensures, search needs))
+    (posted-short _ _ (t .result) (t .ensures) (c .before .before .before .if1 .left), (known .request .lengths .most, (c .before .before .results-for .ensures, search needs)))
 
 same-length-2 : tie.Need-same-length-2
 same-length-2 c = search needs

@@ -2,6 +2,7 @@
 use Prim.Native.Nat.{zero-le}
 use Rattle.laws.specs.Joined.{joined}
 use Rattle.posting.proofs.Following.{put, put-then}
+use Rattle.posting.proofs.Posted.{requests-few}
 use Rattle.posting.specs.Lines.{acceptedLine}
 use Rattle.posting.specs.Posting.{lineAt, acceptedText}
 use mathlib.Core.Path.{_∙_}
@@ -24,7 +25,9 @@ put-requests-requires : tie.Need-put-requests-requires
 put-requests-requires c κs =
     let n = c .before .before .before .before .before .before in
     let b = n .before .before .before .before .before in
-    (n .data-count .ensures, (omega (arith, n .data-count .ensures, b .pre .0), (b .pre .1 .0, search needs)))
+    let first = c .before .before .before .put-accepted in
+    let few = requests-few (b .args .request .now) (b .pre .0) in
+    (n .data-count .ensures, (omega (arith, n .data-count .ensures, b .pre .1 .0), (b .pre .1 .1 .0, omega (arith, few, n .data-count .ensures, first .ensures .1 .1, first .kept .0, b .pre .1 .1 .1))))
 
 same-length : tie.Need-same-length
 same-length c = search needs
@@ -36,11 +39,13 @@ returns c =
     let first = c .before .before .before .before .before .before .put-accepted in
     let s = c .before .before .before .before .before .before .before .before in
     let n = s .before .data-count in
-    let a = s .before .before .before .before .before .before .args in
+    let b = s .before .before .before .before .before .before in
+    let a = b .args in
+    let few = requests-few (a .request .now) (b .pre .0) in
     let p1 = put (acceptedLine (n .result) (s .sums-of .result)) (first .ensures .0) (first .ensures .1 .0) in
     let p2 = put (joined (lineAt (a .request .now) (a .result .now)) (n .result)) (others .ensures .0) (others .ensures .1 .0) in
     let p = put-then p1 p2 zero-le in
-    rw (← n .ensures, ← s .sums-of .ensures) (p .place ∙ zero-add _, (p .after, search needs))
+    rw (← n .ensures, ← s .sums-of .ensures) (p .place ∙ zero-add _, (p .after, omega (arith, few, n .ensures, others .ensures .1 .1, first .ensures .1 .1)))
 
 pub put-all-spec : {M : Type 1} → statement M
 put-all-spec =

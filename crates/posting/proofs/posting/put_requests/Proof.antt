@@ -34,6 +34,9 @@ shared-slice-read-outcome-at c =
     let b = c .before .before .before .before .before .before .before in
     rw (b .pre .1 .1 .0, results-length debitPair (b .args .request .now) (b .args .result .now)) (omega (arith, b .pre .1 .0, c .before .loop-test .taken))
 
+cast-outcome-at : tie.Need-cast-outcome-at Inv-loop μ-loop
+cast-outcome-at c = record { fits = omega (arith, c .shared-slice-known4 .given (c .before .before .loop .i)) }
+
 outcome-at-requires : tie.Need-outcome-at-requires Inv-loop μ-loop
 outcome-at-requires c κs =
     let b = c .before .before .before .before .before .before .before in
@@ -86,6 +89,7 @@ put-requests-spec =
     loop-holds
     mul-outcome-at
     shared-slice-read-outcome-at
+    cast-outcome-at
     outcome-at-requires
     add-put-request
     put-request-requires

@@ -5,7 +5,7 @@ use Rattle.laws.proofs.Leasts.{least-start, least-more}
 use Rattle.kinds.specs.Pairs.{requestKind}
 use Rattle.records.specs.Records.{dataOf}
 use Rattle.two_results.specs.Comparing.{otherAt}
-use Rattle.two_results.proofs.Firsts.{lengths-of, left-at, other-false, other-here, other-none}
+use Rattle.two_results.proofs.Firsts.{lengths-of, result-at, left-at, other-false, other-here, other-none}
 use mathlib.Core.Path.{_≡_, sym, _∙_}
 use native.Mathlib.Nat.{le-antisymm}
 use native.Mathlib.Omega.{arith}
@@ -54,6 +54,14 @@ array-read-not-taken-by c =
     let p = c .before .before .before .before .before .before .before .before .before .pre in
     omega (arith, c .loop-test .taken, c .before .loop .inv .1, lengths-of _ _ (p .0 .request) .most)
 
+cast-not-taken-by : tie.Need-cast-not-taken-by Inv-loop μ-loop
+cast-not-taken-by c =
+    let l = c .before .loop in
+    let x = c .before .before in
+    let b = x .before .before .before .before .before .before .before in
+    let a = b .args in
+    result-at (a .pair) (a .request .now) (a .first .now) (b .pre .0) _ (x .before .results-for .ensures) (l .i) _ (l .inv .1) (c .loop-test .taken)
+
 not-taken-by-requires : tie.Need-not-taken-by-requires Inv-loop μ-loop
 not-taken-by-requires c κs = search needs
 
@@ -66,6 +74,14 @@ array-read-not-taken-by-2 : tie.Need-array-read-not-taken-by-2 Inv-loop μ-loop
 array-read-not-taken-by-2 c =
     let p = c .before .before .before .before .before .before .before .before .before .before .pre in
     omega (arith, c .before .loop-test .taken, c .before .before .loop .inv .1, lengths-of _ _ (p .0 .request) .most)
+
+cast-not-taken-by-2 : tie.Need-cast-not-taken-by-2 Inv-loop μ-loop
+cast-not-taken-by-2 c =
+    let l = c .before .before .loop in
+    let x = c .before .before .before in
+    let b = x .before .before .before .before .before .before .before in
+    let a = b .args in
+    result-at (a .pair) (a .request .now) (a .second .now) (b .pre .1) _ (x .results-for2 .ensures) (l .i) _ (l .inv .1) (c .before .loop-test .taken)
 
 not-taken-by-requires-2 : tie.Need-not-taken-by-requires-2 Inv-loop μ-loop
 not-taken-by-requires-2 c κs = search needs
@@ -124,9 +140,11 @@ first-other-spec =
     loop-holds
     mul-not-taken-by
     array-read-not-taken-by
+    cast-not-taken-by
     not-taken-by-requires
     mul-not-taken-by-2
     array-read-not-taken-by-2
+    cast-not-taken-by-2
     not-taken-by-requires-2
     add-result
     returns
