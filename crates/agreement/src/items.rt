@@ -14,7 +14,7 @@ use tables::copied::Copied;
 use text::parts;
 
 // What is compared: items of the headers, or the copied items of a data record.
-#[derive(Drop)]
+#[derive(Clone, Copy)]
 pub enum Compared {
     Headers,
     Records,

@@ -1,4 +1,6 @@
 // What the treasurer is told.
+#![tactic(auto)]
+
 pub mod lying;
 pub mod of_day;
 pub mod told;

@@ -3,7 +3,7 @@ ghost use Rattle.std.specs.Prelude.{◌≡◌};
 ghost use Rattle.answers.specs.Lying.{is_one};
 
 // The file is refused; the part begins at a byte of the file and is so long; or there is none of that number.
-#[derive(Drop)]
+#[derive(Clone, Copy)]
 pub enum Lies {
     Refused,
     From(usize, usize),

@@ -5,7 +5,7 @@ ghost use Rattle.answers.specs.OfDay.{day_accepted, day_refused, day_refused_at}
 use crate::lying::Lies;
 use crate::told::Answer;
 
-#[derive(Drop)]
+#[derive(Clone, Copy)]
 pub struct DayAnswer {
     pub number: u64,
     // from 1 on; 0 where no body is meant
@@ -39,14 +39,14 @@ impl DayAnswer {
 }
 
 // An answer, and how many bodies the day has or how many bytes were stored; none when refused.
-#[derive(Drop)]
+#[derive(Clone, Copy)]
 pub struct DayTold {
     pub answer: DayAnswer,
     pub count: usize,
 }
 
 // An answer, and where a body lies.
-#[derive(Drop)]
+#[derive(Clone, Copy)]
 pub struct DayShown {
     pub answer: DayAnswer,
     pub lies: Lies,

@@ -3,7 +3,7 @@ ghost use Rattle.std.specs.Prelude.{◌≡◌};
 ghost use Rattle.answers.specs.Answers.{accepted, refused, refused_at};
 
 // A code is its four bytes as one number; `rec` is the record.
-#[derive(Drop)]
+#[derive(Clone, Copy)]
 pub struct Answer {
     pub side: u64,
     pub number: u64,
@@ -43,7 +43,7 @@ impl Answer {
 }
 
 // An answer, and how many bytes were stored at the front of lent room; none when refused.
-#[derive(Drop)]
+#[derive(Clone, Copy)]
 pub struct Stored {
     pub answer: Answer,
     pub size: usize,
@@ -51,7 +51,7 @@ pub struct Stored {
 
 // An answer about two results of one request: where it is a refusal, which of them it is about; where it is none, the first
 // request, from 1 on, in which they differ. Each is 0 where there is none.
-#[derive(Drop)]
+#[derive(Clone, Copy)]
 pub struct Story {
     pub answer: Answer,
     pub which: u64,

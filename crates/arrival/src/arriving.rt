@@ -10,7 +10,7 @@ use text::parts;
 pub(crate) const ENDED: u64 = 0xFFFF_FFFF_FFFF_FFFF;
 
 // What is told of a part: more may come, or the end has come before.
-#[derive(Drop)]
+#[derive(Clone, Copy)]
 pub enum PartTold {
     More,
     Ended,

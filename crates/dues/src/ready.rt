@@ -18,7 +18,7 @@ use records::listed;
 use text::parts;
 
 // The answer; where it is no refusal, how many requests there are, and the dates afterwards.
-#[derive(Drop)]
+#[derive(Clone, Copy)]
 pub struct Ready {
     pub answer: Answer,
     pub n: usize,

@@ -12,14 +12,14 @@ use payers::paying::PAYERS;
 use payers::turns::Task;
 
 // What is told so far, and what the next pass does.
-#[derive(Drop)]
+#[derive(Clone, Copy)]
 pub struct Step {
     pub answer: Answer,
     pub task: Task,
 }
 
 // What is told, and the dates afterwards.
-#[derive(Drop)]
+#[derive(Clone, Copy)]
 pub struct Posted {
     pub answer: Answer,
     pub dates: [u8; 12],

@@ -1,4 +1,5 @@
 // Builds files at the edge of the rules, reads, writes or pairs them, and prints for each case its name and the answer.
+#![tactic(auto)]
 mod again;
 mod cases;
 mod changes;

@@ -1,4 +1,5 @@
 // Lays days at the edge of the rules into its folder, posts each as the posting program does, and prints what it is told.
+#![tactic(auto)]
 mod cases;
 mod days;
 mod values;

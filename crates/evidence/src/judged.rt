@@ -23,7 +23,7 @@ const C0103: u64 = 0x3031_3033;
 const C0089: u64 = 0x3030_3839;
 
 // What is told of the records, and how many are good before the first that is refused.
-#[derive(Drop)]
+#[derive(Clone, Copy)]
 pub(crate) struct Walked {
     pub(crate) answer: Answer,
     pub(crate) count: usize,

@@ -10,7 +10,7 @@ use answers::told::Answer;
 use kinds::of_files::LIMIT;
 
 // What reading says, and where the evidence lies.
-#[derive(Drop)]
+#[derive(Clone, Copy)]
 pub struct Shown {
     pub answer: Answer,
     pub lies: Lies,

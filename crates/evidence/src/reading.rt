@@ -14,7 +14,7 @@ use evidence_units::framing;
 use kinds::of_files::LIMIT;
 
 // The answer, and how many records are good before the first that is refused.
-#[derive(Drop)]
+#[derive(Clone, Copy)]
 pub struct Looked {
     pub answer: Answer,
     pub count: usize,

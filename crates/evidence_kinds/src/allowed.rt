@@ -5,7 +5,7 @@ ghost use Rattle.evidence_kinds.specs.Evidence.{small, name_of, extension, most_
 use text::{characters, parts};
 
 // A kind, and the most bytes of it.
-#[derive(Drop)]
+#[derive(Clone, Copy)]
 pub struct Sized {
     pub kind: u8,
     pub most: u64,

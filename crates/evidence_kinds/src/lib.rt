@@ -1,2 +1,4 @@
 // The kinds of consent evidence, with their extensions and sizes.
+#![tactic(auto)]
+
 pub mod allowed;

@@ -24,7 +24,7 @@ use text::parts;
 const C0103: u64 = 0x3031_3033;
 
 // What is told, how many units are good before the first that is refused, and how many blocks these take.
-#[derive(Drop)]
+#[derive(Clone, Copy)]
 pub(crate) struct Judged {
     pub(crate) answer: Answer,
     pub(crate) count: usize,

@@ -6,7 +6,7 @@ ghost use Rattle.kinds.specs.Kinds.{kind_of, request_of, daily_of, fixed_of, enr
 pub const LIMIT: usize = 2000;
 
 // What several kinds share: the layout of the records and what goes with it.
-#[derive(Drop)]
+#[derive(Clone, Copy)]
 pub enum Form {
     EnrolmentRequest,
     EnrolmentResult,
@@ -16,7 +16,7 @@ pub enum Form {
 }
 
 // What a kind has of its own.
-#[derive(Drop)]
+#[derive(Clone, Copy)]
 pub struct Own {
     // its four letters as one number
     pub name: u64,
@@ -61,7 +61,7 @@ impl Own {
     };
 }
 
-#[derive(Drop)]
+#[derive(Clone, Copy)]
 pub struct Kind {
     pub form: Form,
     pub own: Own,
@@ -115,14 +115,14 @@ const KINDS: [Kind; 7] = [
 ];
 
 // What a number says of a kind.
-#[derive(Drop)]
+#[derive(Clone, Copy)]
 pub enum Named {
     Is(Kind),
     Unknown,
 }
 
 // A record's role in its file.
-#[derive(Drop)]
+#[derive(Clone, Copy)]
 pub enum Role {
     Header,
     Data,
@@ -130,7 +130,7 @@ pub enum Role {
 }
 
 // Where the key of a data record stands, and the item that is reported for it.
-#[derive(Drop)]
+#[derive(Clone, Copy)]
 pub struct Key {
     pub item: u64,
     pub start: usize,
@@ -138,7 +138,7 @@ pub struct Key {
 }
 
 // The fixed numbers of a form.
-#[derive(Drop)]
+#[derive(Clone, Copy)]
 pub struct Fixed {
     // bytes of a record
     pub size: usize,

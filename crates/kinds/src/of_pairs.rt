@@ -5,13 +5,13 @@ ghost use Rattle.kinds.specs.Pairs.{request_kind, result_kind, pair_of};
 use crate::of_files::{Form, Kind, Own};
 
 // What several pair kinds share.
-#[derive(Drop)]
+#[derive(Clone, Copy)]
 pub enum Family {
     Enrolment,
     Debit,
 }
 
-#[derive(Drop)]
+#[derive(Clone, Copy)]
 pub struct PairKind {
     pub family: Family,
     pub request: Own,
@@ -41,7 +41,7 @@ impl PairKind {
 const PAIRS: [PairKind; 3] = [PairKind::ENROLMENT, PairKind::DEBIT, PairKind::SAME_DAY];
 
 // What a number says of a pair kind.
-#[derive(Drop)]
+#[derive(Clone, Copy)]
 pub enum PairNamed {
     Is(PairKind),
     Unknown,

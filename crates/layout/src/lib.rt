@@ -1,4 +1,6 @@
 // One record against its rows.
+#![tactic(auto)]
+
 pub mod items;
 pub mod judging;
 mod rules;

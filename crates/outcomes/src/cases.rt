@@ -7,7 +7,7 @@ use answers::told::Answer;
 use tables::makers::Maker;
 
 // Won as numbers, the result's code, and who set it.
-#[derive(Drop)]
+#[derive(Clone, Copy)]
 pub enum Outcome {
     // the answer is a refusal
     None,
@@ -19,7 +19,7 @@ pub enum Outcome {
     Refused(u64, u64, Maker),
 }
 
-#[derive(Drop)]
+#[derive(Clone, Copy)]
 pub struct Told {
     pub answer: Answer,
     pub outcome: Outcome,

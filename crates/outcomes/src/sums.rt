@@ -11,7 +11,7 @@ use kinds::of_pairs::PairKind;
 use matching::amounts;
 use records::listed;
 
-#[derive(Drop)]
+#[derive(Clone, Copy)]
 pub struct Sums {
     pub asked: u64,
     pub taken: u64,

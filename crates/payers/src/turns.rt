@@ -7,7 +7,7 @@ use crate::members::Member;
 use crate::{paying, seeking};
 
 // What a pass over the board does: nothing; look for a payer that an earlier member has; mark each of n requests with what is told of it; or settle the members that n requests name.
-#[derive(Drop)]
+#[derive(Clone, Copy)]
 pub enum Task {
     Rest,
     Seek,
@@ -16,14 +16,14 @@ pub enum Task {
 }
 
 // Where a pass stands: member `at` is next, none from `end` on; a search holds members `from` on.
-#[derive(Drop)]
+#[derive(Clone, Copy)]
 pub struct Place {
     pub from: usize,
     pub at: usize,
     pub end: usize,
 }
 
-#[derive(Drop)]
+#[derive(Clone, Copy)]
 pub struct Turned {
     pub place: Place,
     pub member: Member,

@@ -1,4 +1,5 @@
 // The text that people read.
+#![tactic(auto)]
 mod lines;
 pub mod posting;
 mod puts;

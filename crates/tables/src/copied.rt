@@ -5,7 +5,7 @@ ghost use Rattle.tables.specs.Copied.{no_item, enrolment_copied, debit_copied, c
 use kinds::of_files::{Form, Kind};
 
 // Item, start, length.
-#[derive(Drop)]
+#[derive(Clone, Copy)]
 pub struct Copied(pub u64, pub usize, pub usize);
 
 const ENROLMENT_COPIED: [Copied; 13] = [

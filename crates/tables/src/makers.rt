@@ -7,7 +7,7 @@ use crate::codes;
 // Banks set the codes that come first in the table.
 const BANKS: usize = 25;
 
-#[derive(Drop)]
+#[derive(Clone, Copy)]
 pub enum Maker {
     // the code is blank
     None,

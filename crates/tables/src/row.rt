@@ -1,7 +1,7 @@
 // The rows of a record: one for each rule of each item, in their order.
 
 // The rule that a row states for the bytes of its item.
-#[derive(Drop)]
+#[derive(Clone, Copy)]
 pub enum Class {
     // every byte is one from low to high
     Each(u8, u8),
@@ -48,5 +48,5 @@ pub enum Class {
 }
 
 // Item, start, length, class, code.
-#[derive(Drop)]
+#[derive(Clone, Copy)]
 pub struct Row(pub u8, pub u8, pub u16, pub Class, pub u32);

@@ -5,7 +5,7 @@ ghost use Rattle.tables.specs.Totals.{no_total, enrolment_totals, debit_request_
 use kinds::of_files::{Form, Kind};
 
 // What the data records give.
-#[derive(Drop)]
+#[derive(Clone, Copy)]
 pub enum Quantity {
     // how many there are
     Records,
@@ -22,7 +22,7 @@ pub enum Quantity {
 }
 
 // Item, start, length, quantity.
-#[derive(Drop)]
+#[derive(Clone, Copy)]
 pub struct Total(pub u64, pub usize, pub usize, pub Quantity);
 
 // No trailer has more.

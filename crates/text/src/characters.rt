@@ -6,7 +6,7 @@ ghost use Rattle.text.specs.Characters.{within, letter, takes, front, each, spac
 use crate::parts;
 
 // The bytes from a low one to a high one; digits and capitals; or letters of either case, digits and the space.
-#[derive(Drop)]
+#[derive(Clone, Copy)]
 enum Set {
     From(u8, u8),
     Code,

@@ -66,5 +66,5 @@ pub fn put(room: &mut [u8], at: usize, bytes: &[u8])
     requires { at + length bytes.now ≤ length room.old }
     ensures { room.new ≡ stored at bytes.now room.old }
 {
-    bytes::copy(bytes, &mut room[at..]);
+    room[at..at + bytes.len()].copy_from_slice(bytes);
 }

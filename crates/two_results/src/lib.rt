@@ -1,2 +1,3 @@
 // Two results of one debit request: whether they tell one story, and where not.
+#![tactic(auto)]
 pub mod comparing;

@@ -9,7 +9,7 @@ use answers::told::Answer;
 use reader::reading;
 
 // The kind and the reader's answer are kept from the opening, so that a step does not read the file again.
-#[derive(Drop)]
+#[derive(Clone, Copy)]
 pub struct Walker<'a> {
     pub file: &'a [u8],
     pub place: u64,

@@ -9,7 +9,7 @@ use reader::reading;
 use records::listed;
 
 // What is handed out at a place.
-#[derive(Drop)]
+#[derive(Clone, Copy)]
 pub enum Step {
     // nothing, because the file is refused
     None,
@@ -19,7 +19,7 @@ pub enum Step {
 }
 
 // The reader's answer, and what is handed out.
-#[derive(Drop)]
+#[derive(Clone, Copy)]
 pub struct Walked {
     pub answer: Answer,
     pub step: Step,

@@ -23,7 +23,7 @@ use tables::totals::MOST_TOTALS;
 const FRAME: usize = 3 * Fixed::DEBIT_SIZE;
 
 // What is told of the data records, and what they add up to where all are good.
-#[derive(Drop)]
+#[derive(Clone, Copy)]
 struct Judged {
     answer: Answer,
     sums: [u64; MOST_TOTALS],

@@ -1,0 +1,6 @@
+-- A refusal that means no body.
+use borrow.Author.Rules.{rules}
+use Rattle.answers.proofs.of_day.DayAnswer.refused.Goals as goal
+
+pub returns : goal.returns
+returns c = rw (← c.accepted.ensures) c.refused_at.ensures

@@ -1,0 +1,29 @@
+-- Built by its width, then stored.
+use Rattle.builder.proofs.Sizes.{wide}
+use lib.Seq.{length-take-le}
+use mathlib.Core.Path.{sym, ◌∙◌}
+use native.Mathlib.Omega.{arith}
+use borrow.Author.Rules.{rules}
+use Rattle.builder.proofs.files.put_record.Goals as goal
+
+pub slice_bounds-data_120-end-then-size-eq-ENROLMENT_SIZE : goal.slice_bounds-data_120-end-then-size-eq-ENROLMENT_SIZE
+slice_bounds-data_120-end-then-size-eq-ENROLMENT_SIZE c = sym (length-take-le _ c.args.file.now (omega arith))
+
+pub slice_bounds-data_150-end-else-size-eq-ENROLMENT_SIZE : goal.slice_bounds-data_150-end-else-size-eq-ENROLMENT_SIZE
+slice_bounds-data_150-end-else-size-eq-ENROLMENT_SIZE c = sym (length-take-le _ c.args.file.now (omega arith))
+
+pub data_150-rec-requires : goal.data_150-rec-requires
+data_150-rec-requires c =
+    record {
+      kind_value = wide c.args.kind (λ e. c.if-size-eq-ENROLMENT_SIZE.false (c.before.before.type_size.ensures ∙ e));
+      i_bound = search rules;
+    }
+
+pub put-requires-else-size-eq-ENROLMENT_SIZE : goal.put-requires-else-size-eq-ENROLMENT_SIZE
+put-requires-else-size-eq-ENROLMENT_SIZE c = let w = wide c.args.kind (λ e. c.if-size-eq-ENROLMENT_SIZE.false (c.before.before.before.before.before.type_size.ensures ∙ e)) in omega arith
+
+pub returns-then-size-eq-ENROLMENT_SIZE : goal.returns-then-size-eq-ENROLMENT_SIZE
+returns-then-size-eq-ENROLMENT_SIZE c = c.put.ensures ∙ rw (c.data_120-rec.ensures, c.before.before.before.before.before.before.before.before.type_size.ensures)
+
+pub returns-else-size-eq-ENROLMENT_SIZE : goal.returns-else-size-eq-ENROLMENT_SIZE
+returns-else-size-eq-ENROLMENT_SIZE c = c.put-else-size-eq-ENROLMENT_SIZE.ensures ∙ rw (c.data_150-rec.ensures, c.before.before.before.before.before.before.before.before.type_size.ensures)

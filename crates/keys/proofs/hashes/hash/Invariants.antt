@@ -1,0 +1,15 @@
+-- The number so far is that of the bytes so far.
+use Prim.Native.Nat.{◌≤◌, ◌-◌, ◌<◌}
+use Rattle.keys.proofs.Hashing.{hash-start, hash-more}
+use Rattle.keys.specs.Hashes.{hash_to, hash_of}
+use lib.ListN.{length}
+use mathlib.Core.Path.{◌≡◌, sym}
+use native.Mathlib.Nat.{le_antisymm}
+use borrow.Author.Rules.{rules}
+use Rattle.keys.proofs.hashes.hash.Given as goal
+
+abbrev pub invariant-loop-i : goal.invariant-loop-i
+invariant-loop-i l = (l.i ≤ length l.key) × (l.sum < 4294967296) × (l.sum ≡ hash_to l.key l.i)
+
+abbrev pub decreases-loop-i : goal.decreases-loop-i
+decreases-loop-i l = length l.key - l.i

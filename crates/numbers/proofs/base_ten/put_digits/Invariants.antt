@@ -1,0 +1,17 @@
+-- One digit after the other.
+use Prim.Native.Nat.{◌≤◌, ◌-◌}
+use Rattle.numbers.specs.Numbers.{digits_of}
+use Rattle.numbers.proofs.Values.{digits-length}
+use Rattle.laws.proofs.Stores.{paste_more, paste_all}
+use lib.ListN.{length, length-set}
+use lib.Seq.{paste, paste-zero}
+use mathlib.Core.Path.{◌≡◌, refl}
+use native.Mathlib.Omega.{arith}
+use borrow.Author.Rules.{rules}
+use Rattle.numbers.proofs.base_ten.put_digits.Given as goal
+
+abbrev pub invariant-loop-i : goal.invariant-loop-i
+invariant-loop-i l = (l.i ≤ l.w) × (l.room ≡ paste l.initial.room l.at (digits_of l.w l.n) l.i) × (length l.room ≡ length l.initial.room)
+
+abbrev pub decreases-loop-i : goal.decreases-loop-i
+decreases-loop-i l = l.w - l.i

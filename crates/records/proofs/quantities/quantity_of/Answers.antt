@@ -1,0 +1,25 @@
+-- The sum so far.
+use Prim.Native.Nat.{◌≤◌, ◌-◌, ◌*◌, ◌^◌}
+use Rattle.laws.proofs.Sums.{sum-start, sum_more}
+use Rattle.laws.specs.Sum
+use Rattle.records.specs.Records.{data_of}
+use Rattle.records.specs.Quantities.{worth_at, quantity_of}
+use borrow.Author.Rules.{rules}
+use mathlib.Core.Path.{◌≡◌, sym}
+use native.Mathlib.Nat.{le_antisymm}
+use native.Mathlib.Omega.{arith}
+use Rattle.records.proofs.quantities.quantity_of.Goals as goal
+
+pub loop-i-init : goal.loop-i-init
+loop-i-init c = (search rules, rw c.count-n.ensures, sym (sum-start _), search rules)
+
+pub loop-i-preserved : goal.loop-i-preserved
+loop-i-preserved c =
+    let l = c.loop-i in
+    (search rules, l.invariant.1, rw (l.invariant.2, c.worth_at-sum.ensures.value) (sym (sum_more _ l.i)), omega (arith, l.invariant.3, c.worth_at-sum.ensures.upper_bound))
+
+pub returns : goal.returns
+unfolding quantity_of
+returns c =
+    let l = c.loop-i in
+    rw (← l.invariant.1, le_antisymm c.loop-i-test.false l.invariant.0) l.invariant.2

@@ -1,0 +1,17 @@
+-- `same` looks for the first place that differs.
+use Prim.Native.Nat.{◌≤◌, ◌-◌}
+use Rattle.laws.proofs.Leasts.{least_start}
+use Rattle.laws.proofs.Parts.{same_not, same_stop, same_more, same_end}
+use Rattle.laws.specs.Least.{least}
+use Rattle.laws.specs.Part.{differ}
+use borrow.Author.Rules.{rules}
+use lib.ListN.{length}
+use mathlib.Core.Path.{◌≡◌, sym}
+use native.Mathlib.Nat.{le_antisymm}
+use Rattle.text.proofs.parts.same.Given as goal
+
+abbrev pub invariant-loop-i : goal.invariant-loop-i
+invariant-loop-i l = (l.i ≤ length l.a) × (length l.a ≡ length l.b) × (least (differ l.a l.b) l.i ≡ l.i)
+
+abbrev pub decreases-loop-i : goal.decreases-loop-i
+decreases-loop-i l = length l.a - l.i

@@ -1,0 +1,8 @@
+-- "00", fourteen one-byte characters.
+use Rattle.text.specs.Passbook.{one_byte_form}
+use borrow.Author.Rules.{rules}
+use Rattle.text.proofs.passbook.one_byte_form.Goals as goal
+
+pub returns : goal.returns
+unfolding one_byte_form
+returns c = c.setting.ensures
