@@ -3,13 +3,6 @@ use mathlib.Core.Bool.{true, false}
 use mathlib.Core.Path.{◌≡◌, sym, ◌∙◌}
 use Rattle.signed.specs.Checking.{is_one, contents_in, holds_sequence}
 use Rattle.signed.proofs.Framing.{one-contents}
-use borrow.Author.Rules.{rules}
-use Rattle.signed.proofs.frames.holds_sequence.Reads as reads
-use Rattle.signed.proofs.frames.holds_sequence.Lts as lts
-use Rattle.signed.proofs.frames.is_one.Reads as is-one-reads
-use Rattle.signed.proofs.heads.front.Reads as front_reads
-use Rattle.signed.proofs.values.list.Reads as list-reads
-use Rattle.text.proofs.parts.rest.Reads as rest-reads
 use Rattle.signed.proofs.frames.holds_sequence.Goals as goal
 
 -- src/frames.rt:34:13

@@ -3,11 +3,6 @@ use mathlib.Core.Path.{sym, ◌∙◌}
 use borrow.Author.Tests.{eq-eqb, ne_eqb, lt-ltb, le-ltb}
 use lib.ListN.{get_or}
 use Rattle.signed.specs.Checking.{is_one}
-use borrow.Author.Rules.{rules}
-use Rattle.signed.proofs.frames.is_one.Reads as reads
-use Rattle.signed.proofs.frames.is_one.Lts as lts
-use Rattle.signed.proofs.heads.framed.Reads as framed-reads
-use Rattle.text.proofs.parts.byte.Reads as byte-Reads
 use Rattle.signed.proofs.frames.is_one.Goals as goal
 
 -- src/frames.rt:22:9

@@ -4,14 +4,6 @@ use mathlib.Core.Path.{◌≡◌, sym, ◌∙◌}
 use Rattle.laws.specs.Part.{begins}
 use Rattle.signed.specs.Checking.{is_one, contents_in, identified, is_signed}
 use Rattle.signed.proofs.Framing.{one-contents}
-use borrow.Author.Rules.{rules}
-use Rattle.signed.proofs.frames.is_signed.Reads as reads
-use Rattle.signed.proofs.frames.is_signed.Lts as lts
-use Rattle.signed.proofs.frames.holds_sequence.Reads as holds-sequence-reads
-use Rattle.signed.proofs.frames.is_one.Reads as is-one-reads
-use Rattle.signed.proofs.heads.front.Reads as front_reads
-use Rattle.text.proofs.parts.begins.Reads as begins-reads
-use Rattle.text.proofs.parts.rest.Reads as rest-reads
 use Rattle.signed.proofs.frames.is_signed.Goals as goal
 
 -- src/frames.rt:47:13

@@ -3,13 +3,6 @@ use mathlib.Core.Path.{sym, ◌∙◌}
 use native.Mathlib.Omega.{arith}
 use Rattle.laws.proofs.Bools.{clash}
 use Rattle.signed.proofs.Framing.{Begins, framed-good, framed-none, framed-far}
-use borrow.Author.Rules.{rules}
-use Rattle.signed.proofs.heads.framed.Reads as reads
-use Rattle.signed.proofs.heads.framed.Lts as lts
-use Rattle.signed.proofs.heads.front.Reads as front_reads
-use Rattle.signed.proofs.heads.is_shortest.Reads as is-shortest-reads
-use Rattle.signed.proofs.heads.said.Reads as said-reads
-use Rattle.text.proofs.parts.byte.Reads as byte-Reads
 use Rattle.signed.proofs.heads.framed.Goals as goal
 
 -- src/heads.rt:79:9

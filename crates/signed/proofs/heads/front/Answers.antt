@@ -1,10 +1,6 @@
 -- Below 128 no byte follows the first of a length.
 use native.Mathlib.Omega.{arith}
 use Rattle.signed.specs.Checking.{front_of}
-use borrow.Author.Rules.{rules}
-use Rattle.signed.proofs.heads.front.Reads as reads
-use Rattle.signed.proofs.heads.front.Lts as lts
-use Rattle.text.proofs.parts.byte.Reads as byte-Reads
 use Rattle.signed.proofs.heads.front.Goals as goal
 
 -- src/heads.rt:23:9

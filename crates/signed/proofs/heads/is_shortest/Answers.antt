@@ -4,10 +4,6 @@ use native.Mathlib.Omega.{arith}
 use borrow.Author.Tests.{lt-ltb, le-ltb}
 use lib.ListN.{get_or}
 use Rattle.signed.proofs.Framing.{short-shortest, long-shortest}
-use borrow.Author.Rules.{rules}
-use Rattle.signed.proofs.heads.is_shortest.Reads as reads
-use Rattle.signed.proofs.heads.is_shortest.Lts as lts
-use Rattle.text.proofs.parts.byte.Reads as byte-Reads
 use Rattle.signed.proofs.heads.is_shortest.Goals as goal
 
 -- src/heads.rt:62:9

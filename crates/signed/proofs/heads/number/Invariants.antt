@@ -1,15 +1,8 @@
 -- The number so far is what the bytes so far say, and has as many digits.
 use Prim.Native.Nat.{◌-◌, ◌^◌, ◌≤◌, ◌<◌}
-use mathlib.Core.Path.{◌≡◌, sym}
-use native.Mathlib.Nat.{le_antisymm}
-use native.Mathlib.Omega.{arith}
-use borrow.Author.Rules.{rules}
+use mathlib.Core.Path.{◌≡◌}
 use lib.ListN.{length}
-use Rattle.signed.specs.Shape.{number_to, number_of}
-use Rattle.signed.proofs.Numbers.{number-start, number_more, below_more, below-within}
-use Rattle.signed.proofs.heads.number.Reads as reads
-use Rattle.signed.proofs.heads.number.Lts as lts
-use Rattle.text.proofs.parts.byte.Reads as byte-Reads
+use Rattle.signed.specs.Shape.{number_to}
 use Rattle.signed.proofs.heads.number.Given as goal
 
 abbrev pub invariant-loop-i : goal.invariant-loop-i

@@ -3,12 +3,6 @@ use mathlib.Core.Path.{sym, ◌∙◌}
 use native.Mathlib.Omega.{arith}
 use Rattle.signed.specs.Checking.{front_of}
 use Rattle.signed.proofs.Framing.{short-said, long-said}
-use borrow.Author.Rules.{rules}
-use Rattle.signed.proofs.heads.said.Reads as reads
-use Rattle.signed.proofs.heads.said.Lts as lts
-use Rattle.signed.proofs.heads.number.Reads as number-reads
-use Rattle.text.proofs.parts.byte.Reads as byte-Reads
-use Rattle.text.proofs.parts.part.Reads as part-reads
 use Rattle.signed.proofs.heads.said.Goals as goal
 
 -- src/heads.rt:50:9
