@@ -3,19 +3,11 @@
 use Prim.Native.Nat.{ℕ, ◌+◌, ◌-◌, ◌≤◌, ◌<◌}
 use mathlib.Core.List.{List}
 use mathlib.Core.Path.{◌≡◌, refl}
-use native.Mathlib.Nat.{le_refl}
 use native.Mathlib.Numerals.{add-one}
 use native.Mathlib.Omega.{arith}
 use borrow.Author.Tests.{lt-ltb, le-ltb}
 use lib.ListN.{length, take, drop, length-take, length-drop}
-use lib.Seq.{take_all}
-use Rattle.bytes.specs.Bytes.{index_of, slice}
-use Rattle.words.specs.Fields.{past_of, tail_by, after_by}
-
--- the whole of s as a slice of it
-pub slice_all : (s : List ℕ) → slice 0 (length s) s ≡ s
-unfolding slice
-slice_all s = take_all (length s) s (le_refl (length s))
+use Rattle.words.specs.Fields.{index_of, past_of, tail_by, after_by}
 
 pub past_one : (b : ℕ) (s : List ℕ) → index_of b s < length s → past_of b s ≡ index_of b s + 1
 unfolding past_of

@@ -1,6 +1,10 @@
 -- What stands before, after and between the bytes that part a text.
-use Rattle.std.specs.Prelude.{ℕ, zero, suc, ◌+◌, cond, List, ltb, length, take, drop}
-use Rattle.bytes.specs.Bytes.{index_of}
+use Rattle.std.specs.Prelude.{ℕ, zero, suc, ◌+◌, cond, List, eqb, ltb, length, take, drop}
+use Rattle.std.specs.List.{position_or_len}
+
+-- how many bytes of s stand before the first b; all where there is none
+unfoldable pub index_of : ℕ → List ℕ → ℕ
+index_of b s = position_or_len (λ x. eqb x b) s
 
 -- how many bytes of s end with the first b; all where there is none
 unfoldable pub past_of : ℕ → List ℕ → ℕ

@@ -1,9 +1,7 @@
 // What stands before, after and between the bytes that part a text.
 ghost use Rattle.std.specs.Prelude.{◌≡◌, ◌≤◌, ◌<◌, length};
-ghost use Rattle.bytes.specs.Bytes.{index_of};
-ghost use Rattle.words.specs.Fields.{past_of, head_by, tail_by, after_by, field_by};
+ghost use Rattle.words.specs.Fields.{index_of, past_of, head_by, tail_by, after_by, field_by};
 
-use bytes::scan;
 use text::parts;
 
 // How many bytes of s stand before the first b.
@@ -11,7 +9,12 @@ fn before(b: u8, s: &[u8]) -> usize
     ensures value { result ≡ index_of b s.now }
     ensures upper_bound { result ≤ length s.now }
 {
-    scan::find(s, 0, s.len(), b)
+    for (i, x) in s.iter().enumerate() {
+        if *x == b {
+            return i;
+        }
+    }
+    s.len()
 }
 
 // How many bytes of s end with the first b; all where there is none.

@@ -1,3 +1,4 @@
 // Lines and words of a list of cases: what stands between marks.
 #![tactic(auto)]
+
 pub mod fields;
