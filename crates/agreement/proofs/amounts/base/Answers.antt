@@ -14,7 +14,7 @@ returns-then-debit_type-eq48 c = rw (eq-eqb _ 0x30 c.if-debit_type-eq48.true)
 pub returns-then-debit_type-lt49 : goal.returns-then-debit_type-lt49
 unfolding base_of
 returns-then-debit_type-lt49 c =
-    let t = c.args.debit-type in
+    let t = c.args.debit_type in
     let e : ◌≡◌ {A = ℕ} (t - 0x31) 0 = omega (arith, c.if-debit_type-lt49.true) in
     rw (ne_eqb t 0x30 c.if-debit_type-eq48.false, e)
 

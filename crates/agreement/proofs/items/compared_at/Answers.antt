@@ -19,4 +19,4 @@ returns-in-Headers c =
     rw c.in-Headers.is (c.header_item.ensures ∙ header-compared a.pair a.i (rw c.in-Headers.is at c.requires))
 
 pub returns-in-Records : goal.returns-in-Records
-returns-in-Records c = rw (c.in-Records.is, ← c.request_kind.ensures) c.Copied-at.ensures
+returns-in-Records c = rw (c.in-Records.is, ← c.request_kind.ensures) c.copied_at.ensures

@@ -21,7 +21,7 @@ unfolding total_for total_is
 returns-then-total_at-item c =
     let l = c.loop-t in
     let a = c.args in
-    sym (ap (λ (i : _). get_or a.t2 i 0)
+    sym (ap (λ (i : _). get_or a.sums i 0)
     (least-stop (total_is a.kind a.item) l.t (length (totals_of a.kind)) (omega arith) l.invariant.4 (rw (← c.total_at.ensures) (eq-eqb _ _ c.if-total_at-item.true))))
 
 pub loop-t-preserved : goal.loop-t-preserved
@@ -35,7 +35,7 @@ unfolding total_for
 returns-then-n-lt-MOST_TOTALS c =
     let l = c.loop-t in
     let a = c.args in
-    sym (ap (λ (i : _). get_or a.t2 i 0) (rw (← l.invariant.1, le_antisymm c.loop-t-test.false l.invariant.0) l.invariant.4))
+    sym (ap (λ (i : _). get_or a.sums i 0) (rw (← l.invariant.1, le_antisymm c.loop-t-test.false l.invariant.0) l.invariant.4))
 
 pub returns : goal.returns
 unfolding total_for
@@ -44,4 +44,4 @@ returns c =
     let a = c.args in
     let end : least (total_is a.kind a.item) (length (totals_of a.kind)) ≡ length (totals_of a.kind) =
     rw (← l.invariant.1, le_antisymm c.loop-t-test.false l.invariant.0) l.invariant.4 in
-    rw end (sym (get_or-eq_default a.t2 0 (omega arith)))
+    rw end (sym (get_or-eq_default a.sums 0 (omega arith)))

@@ -5,7 +5,7 @@ use borrow.Author.Rules.{rules}
 use Rattle.builder.proofs.bytes.fixed.Goals as goal
 
 pub returns-in-Each : goal.returns-in-Each
-returns-in-Each c = rw (c.in-Each.is, t)
+returns-in-Each c t given theirs = rw (c.in-Each.is, t)
 
 pub returns-in_default : goal.returns-in_default
-returns-in_default c = absurd (clash t refl)
+returns-in_default c t given theirs = absurd (clash t refl)

@@ -17,14 +17,14 @@ loop-i-init c = let a = c.args in (search rules, refl, filled-start a.kind a.bod
 pub overflow_mul-i : goal.overflow_mul-i
 overflow_mul-i c =
     let a = c.args in
-    rw c.before.before.type_size.ensures (omega (arith, size_below (c.loop-i.i + 1) (a.n + 2) (fixed_of a.kind).size (omega arith), frame-fits a.kind a.n (omega arith)))
+    rw c.size_of-size.ensures (omega (arith, size_below (c.loop-i.i + 1) (a.n + 2) (fixed_of a.kind).size (omega arith), frame-fits a.kind a.n (omega arith)))
 
 pub put_record-requires : goal.put_record-requires
 put_record-requires c =
     let a = c.args in
     record {
       i_lt_limit = search rules;
-      kind_in_bounds = rw c.before.before.before.type_size.ensures (omega (arith, size_below (c.loop-i.i + 1) (a.n + 2) (fixed_of a.kind).size (omega arith)));
+      kind_in_bounds = rw c.size_of-size.ensures (omega (arith, size_below (c.loop-i.i + 1) (a.n + 2) (fixed_of a.kind).size (omega arith)));
     }
 
 pub loop-i-preserved : goal.loop-i-preserved
@@ -34,7 +34,7 @@ loop-i-preserved c =
     let p = c.put_record in (
       search rules,
       p.auto.1.1.1.1.0 ∙ l.invariant.1,
-      filled_next a.kind a.bodies.now a.file.now (omega (arith, one_more a.n (fixed_of a.kind).size)) l.i l.file _ l.invariant.2 (rw c.before.before.before.before.before.before.type_size.ensures at p.ensures),
+      filled_next a.kind a.bodies.now a.file.now (omega (arith, one_more a.n (fixed_of a.kind).size)) l.i l.file _ l.invariant.2 (rw c.size_of-size.ensures at p.ensures),
     )
 
 pub returns : goal.returns

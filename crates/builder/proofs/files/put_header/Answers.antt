@@ -6,10 +6,10 @@ use borrow.Author.Rules.{rules}
 use Rattle.builder.proofs.files.put_header.Goals as goal
 
 pub header_150-rec-requires : goal.header_150-rec-requires
-header_150-rec-requires c = wide c.args.kind (λ e. c.if-size_of-eq-ENROLMENT_SIZE.false (c.before.type_size.ensures ∙ e))
+header_150-rec-requires c = wide c.args.kind (λ e. c.if-size_of-eq-ENROLMENT_SIZE.false (c.size_of.ensures ∙ e))
 
 pub put-requires-else-size_of-eq-ENROLMENT_SIZE : goal.put-requires-else-size_of-eq-ENROLMENT_SIZE
-put-requires-else-size_of-eq-ENROLMENT_SIZE c = let w = wide c.args.kind (λ e. c.if-size_of-eq-ENROLMENT_SIZE.false (c.before.before.before.before.type_size.ensures ∙ e)) in omega arith
+put-requires-else-size_of-eq-ENROLMENT_SIZE c = let w = wide c.args.kind (λ e. c.if-size_of-eq-ENROLMENT_SIZE.false (c.size_of.ensures ∙ e)) in omega arith
 
 pub returns-then-size_of-eq-ENROLMENT_SIZE : goal.returns-then-size_of-eq-ENROLMENT_SIZE
 returns-then-size_of-eq-ENROLMENT_SIZE c = c.put.ensures ∙ rw c.header_120-rec.ensures

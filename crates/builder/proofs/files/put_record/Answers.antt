@@ -15,15 +15,15 @@ slice_bounds-data_150-end-else-size-eq-ENROLMENT_SIZE c = sym (length-take-le _ 
 pub data_150-rec-requires : goal.data_150-rec-requires
 data_150-rec-requires c =
     record {
-      kind_value = wide c.args.kind (λ e. c.if-size-eq-ENROLMENT_SIZE.false (c.before.before.type_size.ensures ∙ e));
+      kind_value = wide c.args.kind (λ e. c.if-size-eq-ENROLMENT_SIZE.false (c.size_of-size.ensures ∙ e));
       i_bound = search rules;
     }
 
 pub put-requires-else-size-eq-ENROLMENT_SIZE : goal.put-requires-else-size-eq-ENROLMENT_SIZE
-put-requires-else-size-eq-ENROLMENT_SIZE c = let w = wide c.args.kind (λ e. c.if-size-eq-ENROLMENT_SIZE.false (c.before.before.before.before.before.type_size.ensures ∙ e)) in omega arith
+put-requires-else-size-eq-ENROLMENT_SIZE c = let w = wide c.args.kind (λ e. c.if-size-eq-ENROLMENT_SIZE.false (c.size_of-size.ensures ∙ e)) in omega arith
 
 pub returns-then-size-eq-ENROLMENT_SIZE : goal.returns-then-size-eq-ENROLMENT_SIZE
-returns-then-size-eq-ENROLMENT_SIZE c = c.put.ensures ∙ rw (c.data_120-rec.ensures, c.before.before.before.before.before.before.before.before.type_size.ensures)
+returns-then-size-eq-ENROLMENT_SIZE c = c.put.ensures ∙ rw (c.data_120-rec.ensures, c.size_of-size.ensures)
 
 pub returns-else-size-eq-ENROLMENT_SIZE : goal.returns-else-size-eq-ENROLMENT_SIZE
-returns-else-size-eq-ENROLMENT_SIZE c = c.put-else-size-eq-ENROLMENT_SIZE.ensures ∙ rw (c.data_150-rec.ensures, c.before.before.before.before.before.before.before.before.type_size.ensures)
+returns-else-size-eq-ENROLMENT_SIZE c = c.put-else-size-eq-ENROLMENT_SIZE.ensures ∙ rw (c.data_150-rec.ensures, c.size_of-size.ensures)

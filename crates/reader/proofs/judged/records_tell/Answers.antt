@@ -22,7 +22,7 @@ judge_rows-answer-requires c =
     let rec = c.record_of-rec in
     let header = c.record_of-header in
     let table = c.rows_of-rows in
-    let q = laid-judged c.args.kind Data table.result table.ensures rec.result.now header.result.now rec.ensures.1 header.ensures.1 in
+    let q = laid-judged c.args.kind Data table.result table.ensures rec.result.now header.result.now rec.ensures.result_len header.ensures.result_len in
     record {
       by_index = q.0;
       by_index_2 = q.1.0;
