@@ -11,23 +11,22 @@ use native.Mathlib.Omega.{arith}
 use borrow.Author.Rules.{rules}
 use Rattle.builder.proofs.files.put.Goals as goal
 
--- the lent file is as long as it was
-whole : (c : tie.After-put-data) → (c.before.before.before.before.before.before.before.before.before.before.before.before.args.n + 2) * (fixed_of c.before.before.before.before.before.before.before.before.before.before.before.before.args.kind).size ≤ length c.put-data.new.1.1.1.0
-whole c = omega (arith, c.put-data.auto.1.1.1.0, c.before.before.before.before.put-header.auto.1.1.1.1.1.0, c.before.before.before.before.before.before.before.before.before.before.before.before.requires.1.1)
-
 pub overflow_mul-whole : goal.overflow_mul-whole
 overflow_mul-whole c = rw c.size_of-size.ensures (omega (arith, frame-fits c.args.kind c.args.n c.requires.n_le_limit))
 
 pub slice_bounds-sums_of-end : goal.slice_bounds-sums_of-end
-slice_bounds-sums_of-end c = rw c.size_of-size.ensures (whole c.before.before.before)
+slice_bounds-sums_of-end c = rw c.size_of-size.ensures (omega (arith, c.put_data.auto.file, c.put_header.auto.file, c.requires.kind_in_bounds))
 
 pub slice_bounds-sums_of-end-2 : goal.slice_bounds-sums_of-end-2
-slice_bounds-sums_of-end-2 c = rw c.size_of-size.ensures (sym (length-take-le _ c.put_data.new.1.1.1.0 (whole c.before.before.before.before)))
+slice_bounds-sums_of-end-2 c = rw c.size_of-size.ensures (sym (length-take-le _ c.put_data.new.file (omega (arith, c.put_data.auto.file, c.put_header.auto.file, c.requires.kind_in_bounds))))
 
 pub sums_of-sums-requires : goal.sums_of-sums-requires
 sums_of-sums-requires c =
     let a = c.args in
-    rw c.size_of-size.ensures (omega (arith, count-whole a.kind a.n c.put_data.new.1.1.1.0 (whole c.before.before.before.before), c.requires.n_le_limit))
+    record {
+      bound = rw c.size_of-size.ensures (omega (arith, count-whole a.kind a.n c.put_data.new.file (omega (arith, c.put_data.auto.file, c.put_header.auto.file, c.requires.kind_in_bounds)), c.requires.n_le_limit));
+      file_bound = rw c.size_of-size.ensures (omega (arith, count-whole a.kind a.n c.put_data.new.file (omega (arith, c.put_data.auto.file, c.put_header.auto.file, c.requires.kind_in_bounds)), c.requires.n_le_limit));
+    }
 
 pub overflow_mul-n : goal.overflow_mul-n
 overflow_mul-n c =
@@ -37,12 +36,12 @@ overflow_mul-n c =
 pub put_trailer-requires : goal.put_trailer-requires
 put_trailer-requires c =
     let a = c.args in
-    rw c.size_of-size.ensures (omega (arith, one_more a.n (fixed_of a.kind).size, whole c.before.before.before.before.before.before))
+    rw c.size_of-size.ensures (omega (arith, one_more a.n (fixed_of a.kind).size, c.put_data.auto.file, c.put_header.auto.file, c.requires.kind_in_bounds))
 
 pub returns : goal.returns
 returns c =
     let a = c.args in
     let size = c.size_of-size.ensures in
     file-put a.kind (head_of a.date.now a.code.now a.item6.now a.item7.now) a.bodies.now a.file.now a.n c.requires.n_value c.requires.kind_in_bounds
-    c.put_header.new.1.1.1.1.1.0 c.put_data.new.1.1.1.0 _ c.sums_of-sums.result
+    c.put_header.new.file c.put_data.new.file _ c.sums_of-sums.result
     c.put_header.ensures c.put_data.ensures (rw size at c.sums_of-sums.ensures) (rw size at c.put_trailer.ensures)

@@ -33,7 +33,7 @@ loop-i-preserved c =
     let l = c.loop-i in
     let p = c.put_record in (
       search rules,
-      p.auto.1.1.1.1.0 ∙ l.invariant.1,
+      p.auto.file ∙ l.invariant.1,
       filled_next a.kind a.bodies.now a.file.now (omega (arith, one_more a.n (fixed_of a.kind).size)) l.i l.file _ l.invariant.2 (rw c.size_of-size.ensures at p.ensures),
     )
 
