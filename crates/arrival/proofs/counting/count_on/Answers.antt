@@ -1,0 +1,24 @@
+-- Below the turn the sum; from there on what it has over whole cycles.
+use Prim.Native.Nat.{◌+◌, ◌-◌, ◌≤◌}
+use mathlib.Core.Logic.{⊎_elim}
+use mathlib.Core.Path.{sym, ◌∙◌, ap}
+use native.Mathlib.Nat.{add-mod}
+use native.Mathlib.Omega.{arith}
+use borrow.Author.Rules.{rules}
+use borrow.Author.Tests.{ltb-true, ltb-false}
+use Rattle.arrival.specs.Counting.{turn, cycle}
+use Rattle.arrival.proofs.Counted.{counted-low, counted-high}
+use Rattle.arrival.proofs.counting.count_on.Goals as goal
+
+pub overflow_add-result : goal.overflow_add-result
+overflow_add-result c = omega (arith, c.if-n-lt-TURN.true, ltb-true c.args.more (turn - c.args.n) c.if-more-n.true-raw)
+
+pub returns-then-more-n : goal.returns-then-more-n
+returns-then-more-n c = sym (counted-low _ (omega (arith, c.if-n-lt-TURN.true, ltb-true c.args.more (turn - c.args.n) c.if-more-n.true-raw)))
+
+pub returns : goal.returns
+returns c =
+    sym (counted-high _ past ∙ ap (λ x. turn + x) (add-mod c.args.n c.args.more cycle))
+  where
+    past : turn ≤ c.args.n + c.args.more
+    past = ⊎_elim (λ p. omega (arith, ltb-false c.args.more (turn - c.args.n) p.1.left)) (λ e. omega (arith, e.left)) c.else-n-lt-TURN.branch

@@ -1,0 +1,24 @@
+-- After the end nothing; before it the state is marked.
+use borrow.Author.Rules.{rules}
+use borrow.Author.Tests.{eq-eqb, ne_eqb}
+use Rattle.arrival.specs.Arriving.{has_ended}
+use Rattle.arrival.proofs.Steps.{ended-end, open-end}
+use Rattle.arrival.proofs.ending.end.Goals as goal
+
+pub returns-then-state-eq-ENDED : goal.returns-then-state-eq-ENDED
+unfolding has_ended
+returns-then-state-eq-ENDED c =
+    let a = c.args in
+    record {
+      value = rw c.refused.ensures (ended-end a.state.now a.room.now (eq-eqb _ _ c.if-state-eq-ENDED.true) a.kind);
+      state_after = rw c.refused.ensures (ended-end a.state.now a.room.now (eq-eqb _ _ c.if-state-eq-ENDED.true) a.kind);
+    }
+
+pub returns : goal.returns
+unfolding has_ended
+returns c =
+    let a = c.args in
+    record {
+      value = rw c.end_named-told.ensures (open-end a.state.now a.room.now (ne_eqb _ _ c.if-state-eq-ENDED.false) a.kind);
+      state_after = rw c.end_named-told.ensures (open-end a.state.now a.room.now (ne_eqb _ _ c.if-state-eq-ENDED.false) a.kind);
+    }

@@ -1,0 +1,20 @@
+-- One sum after the other.
+use Prim.Native.Nat.{◌≤◌, ◌-◌}
+use Rattle.tables.specs.Totals.{most_totals}
+use Rattle.laws.proofs.Tabs.{tab-start, tab-more, tab-end}
+use Rattle.laws.specs.Tabulate.{tabulate}
+use Rattle.records.specs.Records.{record_of}
+use Rattle.writer.specs.Writing.{sum_with}
+use borrow.Author.Rules.{rules}
+use lib.ListN.{length, take, length-set}
+use mathlib.Core.List.{[]}
+use mathlib.Core.Path.{◌≡◌, refl}
+use native.Mathlib.Nat.{le_antisymm}
+use native.Mathlib.Omega.{arith}
+use Rattle.writer.proofs.sums.with_record.Given as goal
+
+abbrev pub invariant-loop-t : goal.invariant-loop-t
+invariant-loop-t l = (l.t ≤ most_totals) × (length l.more ≡ most_totals) × (take l.t l.more ≡ tabulate (sum_with l.kind (record_of l.kind l.frame 1) l.sums) l.t)
+
+abbrev pub decreases-loop-t : goal.decreases-loop-t
+decreases-loop-t l = most_totals - l.t
