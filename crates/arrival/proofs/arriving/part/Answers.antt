@@ -30,11 +30,9 @@ pub returns : goal.returns
 unfolding has_ended
 returns c =
     let a = c.args in
-    record {
-      value = rw (c.count_on-over.ensures, c.keep-held.ensures.value, c.keep-held.ensures.room_after, add-sub_cancel_left)
-          (open-part a.state.now a.room.now (ne_eqb _ _ c.if-state-eq-ENDED.false) a.part.now);
-      state_after = rw (c.count_on-over.ensures, c.keep-held.ensures.value, c.keep-held.ensures.room_after, add-sub_cancel_left)
-          (open-part a.state.now a.room.now (ne_eqb _ _ c.if-state-eq-ENDED.false) a.part.now);
-      room_after = rw (c.count_on-over.ensures, c.keep-held.ensures.value, c.keep-held.ensures.room_after, add-sub_cancel_left)
-          (open-part a.state.now a.room.now (ne_eqb _ _ c.if-state-eq-ENDED.false) a.part.now);
-    }
+    let q = open-part a.state.now a.room.now (ne_eqb _ _ c.if-state-eq-ENDED.false) a.part.now in
+    rw (c.count_on-over.ensures, c.keep-held.ensures.value, c.keep-held.ensures.room_after, add-sub_cancel_left) (record {
+      value = q.0;
+      state_after = q.1.0;
+      room_after = q.1.1;
+    })

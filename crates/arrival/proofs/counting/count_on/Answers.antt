@@ -9,6 +9,7 @@ use borrow.Author.Tests.{ltb-true, ltb-false}
 use Rattle.arrival.specs.Counting.{turn, cycle}
 use Rattle.arrival.proofs.Counted.{counted-low, counted-high}
 use Rattle.arrival.proofs.counting.count_on.Goals as goal
+use Rattle.arrival.proofs.counting.count_on.Goals.{else-n-lt-TURN-via-then-n-lt-TURN+else-more-n, else-n-lt-TURN-via-else-n-lt-TURN}
 
 pub overflow_add-result : goal.overflow_add-result
 overflow_add-result c = omega (arith, c.if-n-lt-TURN.true, ltb-true c.args.more (turn - c.args.n) c.if-more-n.true-raw)
@@ -21,4 +22,4 @@ returns c =
     sym (counted-high _ past ∙ ap (λ x. turn + x) (add-mod c.args.n c.args.more cycle))
   where
     past : turn ≤ c.args.n + c.args.more
-    past = ⊎_elim (λ p. omega (arith, ltb-false c.args.more (turn - c.args.n) p.1.left)) (λ e. omega (arith, e.left)) c.else-n-lt-TURN.branch
+    past = elim c.else-n-lt-TURN.branch [ else-n-lt-TURN-via-then-n-lt-TURN+else-more-n w ↦ omega arith | else-n-lt-TURN-via-else-n-lt-TURN w ↦ omega arith ]

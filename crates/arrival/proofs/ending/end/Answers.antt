@@ -9,16 +9,18 @@ pub returns-then-state-eq-ENDED : goal.returns-then-state-eq-ENDED
 unfolding has_ended
 returns-then-state-eq-ENDED c =
     let a = c.args in
-    record {
-      value = rw c.refused.ensures (ended-end a.state.now a.room.now (eq-eqb _ _ c.if-state-eq-ENDED.true) a.kind);
-      state_after = rw c.refused.ensures (ended-end a.state.now a.room.now (eq-eqb _ _ c.if-state-eq-ENDED.true) a.kind);
-    }
+    let q = ended-end a.state.now a.room.now (eq-eqb _ _ c.if-state-eq-ENDED.true) a.kind in
+    rw c.refused.ensures (record {
+      value = q.0;
+      state_after = q.1;
+    })
 
 pub returns : goal.returns
 unfolding has_ended
 returns c =
     let a = c.args in
-    record {
-      value = rw c.end_named-told.ensures (open-end a.state.now a.room.now (ne_eqb _ _ c.if-state-eq-ENDED.false) a.kind);
-      state_after = rw c.end_named-told.ensures (open-end a.state.now a.room.now (ne_eqb _ _ c.if-state-eq-ENDED.false) a.kind);
-    }
+    let q = open-end a.state.now a.room.now (ne_eqb _ _ c.if-state-eq-ENDED.false) a.kind in
+    rw c.end_named-told.ensures (record {
+      value = q.0;
+      state_after = q.1;
+    })

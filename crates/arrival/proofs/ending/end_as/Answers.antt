@@ -11,6 +11,7 @@ use Rattle.reader.specs.Reading.{length_tells}
 use Rattle.arrival.specs.Ending.{room_tells, end_as}
 use Rattle.arrival.proofs.Steps.{then-eight, room-enough, room-passed, room-other}
 use Rattle.arrival.proofs.ending.end_as.Goals as goal
+use Rattle.arrival.proofs.ending.end_as.Goals.{else-past-eq0-via-then-past-eq0+else-kept-room, else-past-eq0-via-else-past-eq0}
 
 pub returns-then-of_length-ne0 : goal.returns-then-of_length-ne0
 unfolding end_as
@@ -37,9 +38,9 @@ unfolding end_as
 returns c =
     let a = c.args in
     let room = length a.room.now in
-    let short =
-    ⊎_elim (λ p. room-other a.kept a.past room (leb-false a.kept room p.1.left)) (λ e. room-passed a.kept a.past room e.left)
-    c.else-past-eq0.branch in
     rw c.refused.ensures (sym (
     then-second (length_tells _ _) _ (rw (← c.count_on.ensures, ← c.length_tells-of_length.ensures) c.if-of_length-ne0.false) ∙
-    then-eight _ _ short))
+    then-eight _ _ (elim c.else-past-eq0.branch [
+      | else-past-eq0-via-then-past-eq0+else-kept-room w ↦ room-other a.kept a.past room w.if-kept-room.false
+      | else-past-eq0-via-else-past-eq0 w ↦ room-passed a.kept a.past room w.if-past-eq0.false
+    ])))

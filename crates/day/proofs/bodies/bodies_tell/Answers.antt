@@ -46,9 +46,7 @@ overflow_add-at c =
     omega (arith, inside)
 
 pub loop-i-preserved : goal.loop-i-preserved
-unfolding size_at
-
-unfolding body_told_at body_in size_at
+unfolding size_at body_told_at body_in
 loop-i-preserved c =
     let told : c.body_tells-answer.result ≡ body_told_at (key_in [] c.args.spacing c.args.names.now) (size_at c.args.lengths.now) c.args.bodies.now c.loop-i.i =
     rw (← c.loop-i.invariant.1, ← c.part.ensures.result_value, ← c.key_in-name.ensures) c.body_tells-answer.ensures in

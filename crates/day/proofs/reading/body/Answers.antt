@@ -40,12 +40,11 @@ lengths-lengths-requires c =
     let listed : Contents c.args.file.now =
     read-contents _ (day-number (sym c.look-answer.ensures) ∙ c.if-answer-ne0.false) in
     let l = listed in
-    let q = (c.width_in-width.ensures.value, (c.width_in-width.ensures.upper_bound, rw (c.width_in-width.ensures.value, c.count-n.ensures.value) (l.few, l.whole))) in
     record {
-      width_value = q.0;
-      width_bound = q.1.0;
-      n_le_most = q.1.1.0;
-      n_in_bounds = q.1.1.1;
+      width_value = c.width_in-width.ensures.value;
+      width_bound = c.width_in-width.ensures.upper_bound;
+      n_le_most = rw c.count-n.ensures.value l.few;
+      n_in_bounds = rw (c.width_in-width.ensures.value, c.count-n.ensures.value) l.whole;
     }
 
 pub overflow_mul-start : goal.overflow_mul-start

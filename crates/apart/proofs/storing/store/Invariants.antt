@@ -1,0 +1,18 @@
+-- One body behind the other.
+use Prim.Native.Nat.{◌≤◌, ◌-◌}
+use mathlib.Core.Path.{◌≡◌, refl, ◌∙◌}
+use native.Mathlib.Nat.{le_antisymm}
+use native.Mathlib.Omega.{arith}
+use borrow.Author.Rules.{rules}
+use lib.ListN.{length}
+use Rattle.laws.proofs.Joins.{size_below}
+use Rattle.kinds.specs.Kinds.{fixed_of}
+use Rattle.writer.specs.Apart.{bodies_in}
+use Rattle.apart.proofs.Bodies.{Stored, store-start, store-more, body-within}
+use Rattle.apart.proofs.storing.store.Given as goal
+
+abbrev pub invariant-loop-i : goal.invariant-loop-i
+invariant-loop-i l = (l.i ≤ l.n) × (length l.room ≡ length l.initial.room) × (l.room ≡ Stored l.kind l.file l.initial.room l.i)
+
+abbrev pub decreases-loop-i : goal.decreases-loop-i
+decreases-loop-i l = l.n - l.i

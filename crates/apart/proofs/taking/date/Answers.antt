@@ -1,0 +1,9 @@
+-- Item 5 of the header.
+use mathlib.Core.Path.{◌∙◌}
+use borrow.Author.Rules.{rules}
+use Rattle.writer.specs.Apart.{head_in}
+use Rattle.apart.proofs.taking.date.Goals as goal
+
+pub returns : goal.returns
+unfolding head_in
+returns c = c.part_of.ensures ∙ rw c.header.ensures

@@ -1,0 +1,9 @@
+-- Item 6 of the header, as long as the kind has it.
+use mathlib.Core.Path.{◌∙◌}
+use borrow.Author.Rules.{rules}
+use Rattle.writer.specs.Apart.{head_in}
+use Rattle.apart.proofs.taking.item6.Goals as goal
+
+pub returns : goal.returns
+unfolding head_in
+returns c = c.part_of.ensures ∙ rw (c.of.ensures, c.header.ensures)

@@ -1,0 +1,27 @@
+-- By whether the search goes on.
+use Rattle.payers.specs.Turns.{held, next_in}
+use Rattle.payers.proofs.Sought.{goes-within}
+use mathlib.Core.Path.{refl, sym, ◌∙◌}
+use native.Mathlib.Omega.{arith}
+use borrow.Author.Rules.{rules}
+use Rattle.payers.proofs.seeking.next_in.Goals as goal
+
+pub overflow_add-from : goal.overflow_add-from
+unfolding held
+overflow_add-from c = record { fits = omega (arith, goes-within c.args.place (sym c.goes_on.ensures ∙ c.if-goes_on.true), c.well_formed) }
+
+pub returns-then-goes_on : goal.returns-then-goes_on
+unfolding next_in held
+returns-then-goes_on c =
+    rw (sym c.goes_on.ensures ∙ c.if-goes_on.true) (record {
+      value = refl;
+      links_after = c.clear.ensures;
+    })
+
+pub returns : goal.returns
+unfolding next_in
+returns c =
+    rw (sym c.goes_on.ensures ∙ c.if-goes_on.false) (record {
+      value = refl;
+      links_after = refl;
+    })
