@@ -27,7 +27,7 @@ enum { READ, WRITE, PAIR, OUTCOME, WALK, POST, APART, TOUCH, DIG, PAINTED,
 
 #define THERE UINT64_C(0x636d735f66616365)
 
-/* A multiple of the page sizes that are in use, also of an emulator's machine. */
+/* A multiple of the page sizes that are in use. */
 #define GUARD ((size_t)1 << 16)
 /* Multiples of that. A length of a frame has four digits from 16,777,216 bytes on; no file is so long. */
 #define LONGEST ((size_t)17 << 20)

@@ -31,7 +31,7 @@
 //! * [`gen`]: a deterministic generator of inputs, good and bad;
 //! * [`proved`]: the proved library, function by function of its C face;
 //! * [`bridge`]: how it is called: by a program in C, which watches it;
-//! * `linked`: the same library linked, on x86-64, to measure its time;
+//! * `linked`: the same library linked, to measure its time;
 //! * [`coverage`]: every place and code that the rules can give, counted;
 //! * [`coverage_day`]: the same for day files;
 //! * [`shrink`](mod@shrink): a smaller file that shows the same difference;
@@ -50,7 +50,6 @@ pub mod day;
 pub mod evidence;
 pub mod gen;
 pub mod layout;
-#[cfg(target_arch = "x86_64")]
 pub mod linked;
 pub mod model;
 pub mod pair;

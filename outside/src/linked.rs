@@ -1,5 +1,4 @@
-//! The proved library linked into this program, with nothing copied and nothing watched, to measure its time. The archive
-//! is for x86-64.
+//! The proved library linked into this program, with nothing copied and nothing watched, to measure its time.
 
 use crate::board::{Dates, Member};
 use crate::proved::{DayParts, EvidenceParts, Parts};
