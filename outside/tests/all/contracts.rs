@@ -1,5 +1,5 @@
 //! Every public function of every crate has a contract of the form that the law `one-answer` speaks of: the answer is
-//! `f` of the arguments, and so is what each lent list holds at exit. So any two answers that it allows are equal.
+//! `f` of the arguments, and so is what each lent list holds afterwards. So any two answers that it allows are equal.
 
 use std::path::{Path, PathBuf};
 
@@ -24,21 +24,16 @@ impl Function {
     fn says(&self, what: &str) -> bool {
         self.ensures
             .iter()
-            .any(|line| line.contains(&format!("⌜ {what} ≡ ")) || line.contains(&format!("({what} ≡ ")))
+            .any(|line| line.contains(&format!("{{ {what} ≡ ")) || line.contains(&format!("({what} ≡ ")))
     }
 
     /// What the contract leaves open: the answer, or a list that is lent.
     fn open(&self) -> Vec<String> {
         let mut open = Vec::new();
-        if self.head.contains("->") && !self.says("r") && !self.says("now r") {
+        if self.head.contains("->") && !self.says("result") && !self.says("result.now") {
             open.push("the answer".to_string());
         }
-        for name in self.lent() {
-            let written = if name.contains('_') { format!("«{name}»") } else { name.clone() };
-            if !self.says(&format!("now ({written} .exit)")) {
-                open.push(name);
-            }
-        }
+        open.extend(self.lent().into_iter().filter(|name| !self.says(&format!("{name}.new"))));
         open
     }
 }
@@ -91,9 +86,10 @@ fn functions(crate_name: &str, file: &Path) -> Vec<Function> {
 
 fn all_functions() -> Vec<Function> {
     let listed = std::fs::read_to_string(top().join("crates.txt")).expect("crates.txt");
-    let names =
-        listed.lines().filter_map(|line| line.split_once(':')).map(|(name, _)| name.trim().to_string());
-    let named: Vec<String> = names.filter(|name| !name.starts_with('#')).collect();
+    let lines =
+        listed.lines().filter(|line| !line.starts_with('#')).filter_map(|line| line.split_once(':'));
+    // A word that says what sort of library it is may stand behind the name.
+    let named: Vec<&str> = lines.filter_map(|(said, _)| said.split_whitespace().next()).collect();
     named
         .iter()
         .flat_map(|name| sources(name).into_iter().flat_map(|file| functions(name, &file)))
@@ -135,13 +131,13 @@ fn a_contract_that_leaves_something_open_is_seen() {
         head: head.to_string(),
         ensures: ensures.iter().map(|line| line.to_string()).collect(),
     };
-    let below = function("f(a: u64) -> u64", &["ensures { λ r. ⌜ r ≤ a ⌝ }"]);
+    let below = function("f(a: u64) -> u64", &["ensures { result ≤ a }"]);
     assert_eq!(below.open(), ["the answer"]);
-    let silent = function("f(a_b: &mut [u8]) -> u64", &["ensures { λ r. ⌜ r ≡ 0 ⌝ }"]);
+    let silent = function("f(a_b: &mut [u8]) -> u64", &["ensures { result ≡ 0 }"]);
     assert_eq!(silent.open(), ["a_b"]);
     let whole = function(
         "f(a_b: &mut [u8]) -> u64",
-        &["ensures { λ r. ⌜ r ≡ 0 ⌝ }", "ensures { λ _. ⌜ now («a_b» .exit) ≡ now («a_b» .entry) ⌝ }"],
+        &["ensures value { result ≡ 0 }", "ensures a_b_after { a_b.new ≡ a_b.old }"],
     );
     assert!(whole.open().is_empty());
 }

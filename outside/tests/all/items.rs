@@ -294,11 +294,11 @@ struct Kind {
 fn kinds_of(definitions: &Definitions) -> Vec<Kind> {
     definitions.is("own name least = record { name = name; least = least }");
     definitions.is("kind form o = record { form = form; own = o }");
-    definitions.is("noKind = kind EnrolmentRequest (own 0 0)");
+    definitions.is("no_kind = kind EnrolmentRequest (own 0 0)");
     let listed = definitions.list("kinds");
     for (name, clauses) in &definitions.0 {
         let kind = matches!(&clauses[..], [(_, body)] if body.first().is_some_and(|word| word == "kind"));
-        assert!(!kind || name == "noKind" || listed.contains(name), "not in the list of kinds: {name}");
+        assert!(!kind || name == "no_kind" || listed.contains(name), "not in the list of kinds: {name}");
     }
     listed.iter().map(|name| kind_of(definitions, name)).collect()
 }
@@ -324,15 +324,15 @@ type Texts<'a> = dyn Fn(&str) -> Definitions + 'a;
 /// The rules of every record of every kind, the trailer's totals after the other rules of their items.
 fn library(of: &Texts) -> Records {
     let [tables, totals, kinds] = [TABLES, TOTALS, KINDS].map(of);
-    tables.is("rowsOf k role = rowsFor (k .form) role");
-    totals.is("totalsOf k = totalsFor (k .form)");
+    tables.is("rows_of k role = rows_for k.form role");
+    totals.is("totals_of k = totals_for k.form");
     let kinds = kinds_of(&kinds);
     let mut records = Records::new();
     for kind in &kinds {
         for role in ROLES {
-            let mut rules = rules_of(&tables, "rowsFor", &[&kind.form, role], &kind.least);
+            let mut rules = rules_of(&tables, "rows_for", &[&kind.form, role], &kind.least);
             if role == "Trailer" {
-                for total in rules_of(&totals, "totalsFor", &[&kind.form], &kind.least) {
+                for total in rules_of(&totals, "totals_for", &[&kind.form], &kind.least) {
                     insert(&mut rules, total);
                 }
             }
@@ -340,7 +340,7 @@ fn library(of: &Texts) -> Records {
             assert!(records.insert(record, rules).is_none(), "twice: {} {role}", kind.letters);
         }
     }
-    for (of, _) in tables.clauses("rowsFor").iter().chain(totals.clauses("totalsFor")) {
+    for (of, _) in tables.clauses("rows_for").iter().chain(totals.clauses("totals_for")) {
         assert!(kinds.iter().any(|kind| kind.form == of[0]), "no kind has the form {}", of[0]);
         assert!(of[1..].iter().all(|role| ROLES.contains(&role.as_str())), "not understood: {of:?}");
     }
@@ -366,13 +366,13 @@ const PROFILES: [&str; 2] = ["ordinary", "partly exempt"];
 /// The rules of a record of evidence: its rows, and what is asked beside them.
 fn evidence_rules(of: &Texts, profile: &str, role: &str) -> Vec<Rule> {
     let rows = of(EVIDENCE_ROWS);
-    rows.is("dataRows exempt = cond exempt exemptRows ordinaryRows");
+    rows.is("data_rows exempt = cond exempt exempt_rows ordinary_rows");
     let exempt = profile == PROFILES[1];
     let name = match role {
-        "Header" => "headerRows",
-        "Trailer" => "trailerRows",
-        _ if exempt => "exemptRows",
-        _ => "ordinaryRows",
+        "Header" => "header_rows",
+        "Trailer" => "trailer_rows",
+        _ if exempt => "exempt_rows",
+        _ => "ordinary_rows",
     };
     let mut rules = table(&rows, &[name.to_string()], "");
     let beside = if role == "Data" {
@@ -394,32 +394,32 @@ fn asked(item: u64, (first, last): (u64, u64), words: &str, told: &str) -> Rule 
 
 /// What a length of evidence is held to besides its row.
 fn lengths(judged: &Definitions, exempt: bool) -> Vec<Rule> {
-    judged.is("lengthGood exempt kind length = \
-        cond exempt (eqb length 0) (ltb 0 length && leb length (mostOf kind))");
-    judged.is("lengthTold exempt s b n = \
-        cond (lengthGood exempt (kindAt s b) (lengthAt s b) && leb (nextOf s b) (lastBlock s)) \
-        accepted (refusedAt 4 n 12 0x30313033)");
+    judged.is("length_good exempt kind length = \
+        cond exempt (eqb length 0) (ltb 0 length && leb length (most_of kind))");
+    judged.is("length_told exempt s b n = \
+        cond (length_good exempt (kind_at s b) (length_at s b) && leb (next_of s b) (last_block s)) \
+        accepted (refused_at 4 n 12 0x30313033)");
     let good = if exempt { "zero" } else { "from 1 to the most of the kind" };
     [good, "no more than the data blocks hold"].map(|words| asked(12, (113, 119), words, "0103")).to_vec()
 }
 
 /// The items behind the rows of a data record: the evidence, of which nothing is asked there, and the filler.
 fn behind_rows(judged: &Definitions) -> Vec<Rule> {
-    judged.is("fillerAt s b = part (b * block + (front + lengthAt s b)) \
-        (blocksFor (lengthAt s b) * block - (front + lengthAt s b)) s");
-    judged.is("fillerTold s b n = cond (spaces (fillerAt s b)) accepted (refusedAt 4 n 14 0x30303839)");
-    judged.is("blockTold exempt s b n = \
-        itemsTold exempt s b n then (lengthTold exempt s b n then fillerTold s b n)");
+    judged.is("filler_at s b = part (b * block + (front + length_at s b)) \
+        (blocks_for (length_at s b) * block - (front + length_at s b)) s");
+    judged.is("filler_told s b n = cond (spaces (filler_at s b)) accepted (refused_at 4 n 14 0x30303839)");
+    judged.is("block_told exempt s b n = \
+        items_told exempt s b n then (length_told exempt s b n then filler_told s b n)");
     vec![asked(13, THE_EVIDENCE.1, "any bytes", NOTHING), asked(14, BEHIND_IT.1, "only spaces", "0089")]
 }
 
 /// What signed evidence is held to; who is partly exempt has none.
 fn frames(frames: &Definitions, exempt: bool) -> Vec<Rule> {
     frames.is(
-        "frameGood kind evidence = not (eqb kind 0x32) || (eqb (length evidence) 0 || isSigned evidence)",
+        "frame_good kind evidence = not (eqb kind 0x32) || (eqb (length evidence) 0 || is_signed evidence)",
     );
-    frames.is("frameTold x p n = \
-        cond (frameGood (sortAt x p) (evidenceAt x p)) accepted (refusedAt 22 n 13 0x30303030)");
+    frames.is("frame_told x p n = \
+        cond (frame_good (sort_at x p) (evidence_at x p)) accepted (refused_at 22 n 13 0x30303030)");
     let words = "the frame of signed data where the kind is \"2\"";
     if exempt {
         Vec::new()
@@ -430,11 +430,11 @@ fn frames(frames: &Definitions, exempt: bool) -> Vec<Rule> {
 
 /// What the counts of a header or trailer of evidence are held to.
 fn counts(reading: &Definitions, role: &str) -> Vec<Rule> {
-    reading.is("countTold said n item = cond said accepted (refusedAt 6 n item 0x30303030)");
-    reading.is("countsTold s = \
-        countTold (says (part 43 7 (blockAt s 0)) (recordsIn s)) 0 6 then \
-        (countTold (says (part 35 7 (blockAt s (lastBlock s))) (recordsIn s)) (recordsIn s + 1) 5 then \
-        countTold (says (part 42 10 (blockAt s (lastBlock s))) (dataBlocks s)) (recordsIn s + 1) 6)");
+    reading.is("count_told said n item = cond said accepted (refused_at 6 n item 0x30303030)");
+    reading.is("counts_told s = \
+        count_told (says (part 43 7 (block_at s 0)) (records_in s)) 0 6 then \
+        (count_told (says (part 35 7 (block_at s (last_block s))) (records_in s)) (records_in s + 1) 5 then \
+        count_told (says (part 42 10 (block_at s (last_block s))) (data_blocks s)) (records_in s + 1) 6)");
     let count =
         |item, bytes, of: &str| asked(item, bytes, &format!("the number of data {of}"), "refusal 6");
     match role {
@@ -492,7 +492,7 @@ fn evidence_kinds(definitions: &Definitions) -> Vec<EvidenceKind> {
 fn blocks(definitions: &Definitions, length: u64) -> (u64, u64) {
     definitions.is("front = 119");
     definitions.is("block = 1024");
-    definitions.is("blocksFor length = (front + length + 1023) / block");
+    definitions.is("blocks_for length = (front + length + 1023) / block");
     let blocks = (119 + length).div_ceil(1024);
     (blocks, blocks * 1024 - 119 - length)
 }
@@ -503,9 +503,9 @@ type Agreeing = ((u64, u64), (u64, u64), String);
 /// What a comparison asks of an enrolment and its evidence, item by item.
 fn agreeing(of: &Texts) -> Vec<Agreeing> {
     let (comparing, reading) = (of(COMPARING), of(EVIDENCE_READING));
-    reading.is("keyOf s i = part (byteOf s i + 45) 61 s");
-    comparing.is("longDate date = 0x32 ∷ 0x30 ∷ date");
-    let (_, body) = comparing.only("askedBy");
+    reading.is("key_of s i = part (byte_of s i + 45) 61 s");
+    comparing.is("long_date date = 0x32 ∷ 0x30 ∷ date");
+    let (_, body) = comparing.only("asked_by");
     let words: Vec<&str> =
         body.iter().map(String::as_str).filter(|word| !["(", ")", "++"].contains(word)).collect();
     let number = |word: &str| word.parse::<u64>().unwrap_or_else(|_| panic!("no number: {word}"));
@@ -519,7 +519,7 @@ fn agreeing(of: &Texts) -> Vec<Agreeing> {
                 (*last, *added) = (at, format!("{many} spaces behind it"));
                 rest
             }
-            ["longDate", rest @ ..] | rest => {
+            ["long_date", rest @ ..] | rest => {
                 let long = rest.len() < left.len();
                 let ["part", start, size, "r", rest @ ..] = rest else {
                     panic!("not understood: {rest:?}")
@@ -728,14 +728,14 @@ fn lists(text: &str) -> Vec<(String, Vec<String>)> {
 /// The lists that docs/CODES.md must have: the banks', the centre's, ours, and the codes of all rules.
 fn code_lists(codes: &str, answers: &str, records: &Records) -> Vec<(String, Vec<String>)> {
     let [codes, answers] = [codes, answers].map(Definitions::of);
-    assert_eq!(codes.only("tableCodes").1, ["bankCodes", "++", "centreCodes"], "who sets codes");
+    assert_eq!(codes.only("table_codes").1, ["bank_codes", "++", "centre_codes"], "who sets codes");
     let all = records.values().flatten().map(|rule| rule.told.clone());
     let is_code = |told: &String| !told.starts_with("refusal ") && told != NOTHING;
     let told: BTreeSet<String> = all.filter(is_code).collect();
     vec![
-        ("Set by banks".to_string(), codes.codes("bankCodes")),
-        ("Set by the centre".to_string(), codes.codes("centreCodes")),
-        ("Set by us".to_string(), answers.codes("ourCodes")),
+        ("Set by banks".to_string(), codes.codes("bank_codes")),
+        ("Set by the centre".to_string(), codes.codes("centre_codes")),
+        ("Set by us".to_string(), answers.codes("our_codes")),
         ("Told by this library of a file".to_string(), told.into_iter().collect()),
     ]
 }
@@ -893,8 +893,8 @@ fn a_changed_table_is_seen() {
     assert_eq!(
         seen(
             TABLES,
-            "DebitRequest Trailer = debitRequestTrailer",
-            "DebitRequest Trailer = debitResultTrailer"
+            "DebitRequest Trailer = debit_request_trailer",
+            "DebitRequest Trailer = debit_result_trailer"
         ),
         2
     );
@@ -906,8 +906,8 @@ fn a_changed_table_is_seen() {
     assert_eq!(
         seen(
             TOTALS,
-            "totalsFor DebitResult = debitResultTotals",
-            "totalsFor DebitResult = debitRequestTotals"
+            "totals_for DebitResult = debit_result_totals",
+            "totals_for DebitResult = debit_request_totals"
         ),
         2
     );
@@ -921,10 +921,9 @@ fn a_changed_kind_is_seen() {
     assert_eq!(seen(KINDS, "own 0x45423131 0", "own 0x45423132 0"), 6);
     // Its data records and its trailer would be those of a result.
     assert_eq!(seen(KINDS, "EC21 = kind DebitRequest", "EC21 = kind DebitResult"), 2);
+    let of = |kind: &str, form: &str| format!("{kind} = kind {form} own_{}\n", kind.to_lowercase());
     let two = |[one, other]: [&str; 2], [form, another]: [&str; 2]| {
-        format!(
-            "{one} = kind {form} own{one}\n\nabbrev pub {other} : Kind\n{other} = kind {another} own{other}\n"
-        )
+        of(one, form) + &format!("\nabbrev pub {other} : Kind\n") + &of(other, another)
     };
     let [of_bank, request, result] = ["BankEnrolment", "EnrolmentRequest", "EnrolmentResult"];
     for (kinds, [one, other]) in
@@ -942,8 +941,8 @@ fn a_changed_kind_is_seen() {
 }
 
 fn new_kind(form: &str) -> String {
-    let own = "abbrev pub ownED21 : Own\nownED21 = own 0x45443231 0\n";
-    format!("{own}abbrev pub ED21 : Kind\nED21 = kind {form} ownED21\n")
+    let own = "abbrev pub own_ed21 : Own\nown_ed21 = own 0x45443231 0\n";
+    format!("{own}abbrev pub ED21 : Kind\nED21 = kind {form} own_ed21\n")
 }
 
 /// A changed table of evidence is seen, in the records of both profiles or of one.
@@ -953,7 +952,10 @@ fn a_changed_table_of_evidence_is_seen() {
     assert_eq!(seen(EVIDENCE_ROWS, "row 9 98 8 LongDate c9998 ∷", ""), 2);
     assert_eq!(seen(EVIDENCE_ROWS, "row 1 5 1 (only 0x32)", "row 1 5 1 (only 0x33)"), 6);
     assert_eq!(seen(EVIDENCE_ROWS, "front 0x33", "front 0x34"), 2);
-    assert_eq!(seen(EVIDENCE_ROWS, "exemptRows = recordRows spaces", "exemptRows = recordRows zeros"), 1);
+    assert_eq!(
+        seen(EVIDENCE_ROWS, "exempt_rows = record_rows spaces", "exempt_rows = record_rows zeros"),
+        1
+    );
     assert_eq!(seen(EVIDENCE_ROWS, "c0102 = 0x30313032", "c0102 = 0x30313035"), 2);
     let (page, kinds) = (text("docs/ITEMS.md"), text(EVIDENCE_KINDS));
     for (from, to) in [
@@ -970,7 +972,8 @@ fn a_changed_table_of_evidence_is_seen() {
     let smaller = changed(&page, "| der | 10,240 |", "| der | 5,120 |");
     assert_ne!(evidence_kinds(&definitions(EVIDENCE_KINDS)), documented_kinds(&smaller));
     let comparing = text(COMPARING);
-    for (from, to) in [("part 46 3 r", "part 47 3 r"), ("longDate (part 19 6 r)", "longDate (part 27 6 r)")]
+    for (from, to) in
+        [("part 46 3 r", "part 47 3 r"), ("long_date (part 19 6 r)", "long_date (part 27 6 r)")]
     {
         let other = |of: &str| match of {
             COMPARING => Definitions::of(&changed(&comparing, from, to)),
@@ -981,21 +984,21 @@ fn a_changed_table_of_evidence_is_seen() {
 }
 
 #[test]
-#[should_panic(expected = "not understood: lengthGood")]
+#[should_panic(expected = "not understood: length_good")]
 fn a_changed_length_of_evidence_is_noticed() {
     library_with(EVIDENCE_JUDGED, |judged| {
-        changed(&judged, "leb length (mostOf kind)", "ltb length (mostOf kind)")
+        changed(&judged, "leb length (most_of kind)", "ltb length (most_of kind)")
     });
 }
 
 #[test]
-#[should_panic(expected = "not understood: countsTold")]
+#[should_panic(expected = "not understood: counts_told")]
 fn a_changed_count_of_evidence_is_noticed() {
     library_with(EVIDENCE_READING, |reading| changed(&reading, "says (part 43 7", "says (part 44 7"));
 }
 
 #[test]
-#[should_panic(expected = "not understood: frameGood")]
+#[should_panic(expected = "not understood: frame_good")]
 fn a_changed_kind_of_signed_evidence_is_noticed() {
     library_with(EVIDENCE_FRAMES, |frames| changed(&frames, "not (eqb kind 0x32)", "not (eqb kind 0x36)"));
 }
@@ -1023,13 +1026,13 @@ fn a_class_without_words_is_noticed() {
 #[test]
 #[should_panic(expected = "no kind has the form CardRequest")]
 fn a_form_without_a_kind_is_noticed() {
-    let first = "rowsFor EnrolmentRequest Header =";
-    let more = format!("rowsFor CardRequest Header = debitHeader\n{first}");
+    let first = "rows_for EnrolmentRequest Header =";
+    let more = format!("rows_for CardRequest Header = debit_header\n{first}");
     library_with(TABLES, |tables| changed(&tables, first, &more));
 }
 
 #[test]
-#[should_panic(expected = "not one clause: rowsFor CardRequest Header")]
+#[should_panic(expected = "not one clause: rows_for CardRequest Header")]
 fn a_form_without_rows_is_noticed() {
     library_with(KINDS, |kinds| changed(&kinds, "EB22 = kind DebitResult", "EB22 = kind CardRequest"));
 }
@@ -1041,9 +1044,9 @@ fn a_kind_that_is_not_listed_is_noticed() {
 }
 
 #[test]
-#[should_panic(expected = "not understood: rowsOf")]
+#[should_panic(expected = "not understood: rows_of")]
 fn rows_by_more_than_the_form_are_noticed() {
-    library_with(TABLES, |tables| changed(&tables, "rowsFor (k .form) role", "rowsFor DebitResult role"));
+    library_with(TABLES, |tables| changed(&tables, "rows_for k.form role", "rows_for DebitResult role"));
 }
 
 #[test]

@@ -18,11 +18,14 @@ fn number(definitions: &str, before: &str, behind: &str) -> usize {
 /// Of each row of the page its bytes in each form, counted from 1, and how its rule begins.
 fn rows_that_must_be(definitions: &str) -> Vec<[String; 3]> {
     let form = |word: &str| u8::from_str_radix(said(definitions, word, ""), 16).expect("a byte") as char;
-    let forms = ["formOne = 0x", "formTwo = 0x"].map(form);
-    let long = number(definitions, "longAt size i = leb ", " (size i)");
-    let of_lengths = said(definitions, "formFor size n = ", "");
-    assert_eq!(of_lengths, "cond (none (longAt size) n) formOne formTwo", "the form goes by the longest");
-    let digits = said(definitions, "widthOf form = cond (eqb form formTwo) ", "").split(' ');
+    let forms = ["form_one = 0x", "form_two = 0x"].map(form);
+    let long = number(definitions, "long_at size i = leb ", " (size i)");
+    let of_lengths = said(definitions, "form_for size n = ", "");
+    assert_eq!(
+        of_lengths, "cond (none (long_at size) n) form_one form_two",
+        "the form goes by the longest"
+    );
+    let digits = said(definitions, "width_of form = cond (eqb form form_two) ", "").split(' ');
     let digits: Vec<usize> = digits.map(|word| word.parse().expect("a number")).collect();
     // The digits of form "2" stand first.
     let [in_two, in_one] = digits[..] else { panic!("not two numbers: {digits:?}") };
@@ -41,10 +44,10 @@ fn rows_that_must_be(definitions: &str) -> Vec<[String; 3]> {
 
 /// The bytes of each row where a length has so many digits.
 fn places(definitions: &str, front: usize, digits: usize) -> [String; 5] {
-    let name = number(definitions, "nameIn s i = part (entryAt (widthIn s) i) ", " s");
-    let digits_behind = format!("digitsIn s i = part (entryAt (widthIn s) i + {name}) (widthIn s) s");
+    let name = number(definitions, "name_in s i = part (entry_at (width_in s) i) ", " s");
+    let digits_behind = format!("digits_in s i = part (entry_at (width_in s) i + {name}) (width_in s) s");
     assert!(definitions.lines().any(|line| line == digits_behind), "the digits stand behind the name");
-    let entry = number(definitions, "entryAt width i = i * (", " + width) + front") + digits;
+    let entry = number(definitions, "entry_at width i = i * (", " + width) + front") + digits;
     // Body k has its entry behind those of k - 1 others.
     let behind = entry - front;
     [
@@ -90,11 +93,11 @@ fn a_wrong_place_is_seen() {
     }
     for (old, new, row) in [
         ("leb 100000 (size i)", "leb 99999 (size i)", 0),
-        ("formTwo = 0x32", "formTwo = 0x33", 0),
+        ("form_two = 0x32", "form_two = 0x33", 0),
         ("most = 16", "most = 17", 1),
         ("front = 3", "front = 4", 1),
-        ("formTwo) 6 5", "formTwo) 7 5", 2),
-        ("formTwo) 6 5", "formTwo) 6 4", 2),
+        ("form_two) 6 5", "form_two) 7 5", 2),
+        ("form_two) 6 5", "form_two) 6 4", 2),
     ] {
         assert_eq!(difference(&changed(&definitions, old, new), &page), Some(row), "{old}");
     }
@@ -104,7 +107,7 @@ fn a_wrong_place_is_seen() {
 #[test]
 fn the_shortest_long_bodies_are_documented() {
     let page = text(PAGE);
-    let long = number(&text(CONTENTS), "longAt size i = leb ", " (size i)");
+    let long = number(&text(CONTENTS), "long_at size i = leb ", " (size i)");
     for (size, records) in [(120, 832), (150, 665)] {
         let length = (records + 2) * size;
         assert!(length >= long && length - size < long);

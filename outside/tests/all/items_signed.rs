@@ -38,7 +38,7 @@ fn the_frame_is_documented_as_it_is() {
     assert!(section.contains(&format!("nothing stands deeper than level {levels}:")), "{levels} levels");
     let held =
         "list 0x30 (more (bytes 0x06 identifier) (more (list 0xA0 (more (list 0x30 held) none)) none))";
-    assert_eq!(defined(&shape, "signedNode held"), held);
+    assert_eq!(defined(&shape, "signed_node held"), held);
     let marks: Vec<(&str, &str)> = section.lines().filter_map(level).collect();
     assert_eq!(marks, [("1", "30"), ("2", "A0"), ("3", "30")], "the other rows of levels");
 }
