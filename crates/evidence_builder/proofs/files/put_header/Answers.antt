@@ -12,30 +12,23 @@ use Rattle.evidence_builder.proofs.files.put_header.Goals as goal
 pub returns : goal.returns
 unfolding header_block
 returns c =
-    let c₆ = c.before.before in
-    let c₅ = c₆.before.before.before.before in
-    let c₄ = c₅.before.before.before.before in
-    let c₃ = c₄.before.before.before.before in
-    let c₂ = c₃.before.before.before.before in
-    let c₁ = c₂.before.before.before.before in
-    let t = c₁.before.before.before.before.before in
-    let room = t.args.room.now in
-    let date = t.args.date.now in
-    let code = t.args.code.now in
-    let n = t.args.n in
-    let last = c₆.blanks.new.0 in
-    let r₁ = c₁.marks.new.0 in
-    let r₂ = c₂.put-digits.new.0 in
-    let r₃ = c₃.put.new.0 in
-    let r₄ = c₄.institution.new.0 in
-    let r₅ = c₅.put-digits2.new.0 in
-    stored-then 0 8 (marks 0x31) (digits_of 7 0 ++ (date ++ (institution_of code ++ (digits_of 7 n ++ blanks 974)))) room r₁ last c₁.marks.ensures
-    (stored-then 8 15 (digits_of 7 0) (date ++ (institution_of code ++ (digits_of 7 n ++ blanks 974))) r₁ r₂ last c₂.put-digits.ensures
-    (stored-then 15 23 date (institution_of code ++ (digits_of 7 n ++ blanks 974)) r₂ r₃ last c₃.put.ensures
-    (stored-then 23 43 (institution_of code) (digits_of 7 n ++ blanks 974) r₃ r₄ last c₄.institution.ensures
-    (stored-then 43 50 (digits_of 7 n) (blanks 974) r₄ r₅ last c₅.put-digits2.ensures c₆.blanks.ensures
+    let room = c.args.room.now in
+    let date = c.args.date.now in
+    let code = c.args.code.now in
+    let n = c.args.n in
+    let last = c.blanks.new.room in
+    let r₁ = c.marks.new.room in
+    let r₂ = c.put_digits.new.room in
+    let r₃ = c.put.new.room in
+    let r₄ = c.institution.new.room in
+    let r₅ = c.put_digits-2.new.room in
+    stored-then 0 8 (marks 0x31) (digits_of 7 0 ++ (date ++ (institution_of code ++ (digits_of 7 n ++ blanks 974)))) room r₁ last c.marks.ensures
+    (stored-then 8 15 (digits_of 7 0) (date ++ (institution_of code ++ (digits_of 7 n ++ blanks 974))) r₁ r₂ last c.put_digits.ensures
+    (stored-then 15 23 date (institution_of code ++ (digits_of 7 n ++ blanks 974)) r₂ r₃ last c.put.ensures
+    (stored-then 23 43 (institution_of code) (digits_of 7 n ++ blanks 974) r₃ r₄ last c.institution.ensures
+    (stored-then 43 50 (digits_of 7 n) (blanks 974) r₄ r₅ last c.put_digits-2.ensures c.blanks.ensures
     (omega (arith, digits-length 7 n)) (search rules))
-    (omega (arith, institution-length code t.requires.1.0)) (search rules))
-    (omega (arith, t.requires.0)) (search rules))
+    (omega (arith, institution-length code c.requires.code_len)) (search rules))
+    (omega (arith, c.requires.date_len)) (search rules))
     (omega (arith, digits-length 7 0)) (search rules))
     (omega (arith, marks-length 0x31)) (search rules)

@@ -30,20 +30,16 @@ blanks-requires c = omega (arith, c.blocks_for.ensures, blocks-enough c.args.sai
 
 pub returns : goal.returns
 returns c =
-    let c₃ = c.before.before in
-    let c₂ = c₃.before.before.before.before.before in
-    let c₁ = c₂.before.before.before.before in
-    let t = c₁.before.before.before.before.before in
-    let at = t.args.at in
-    let code = t.args.code.now in
-    let unit = t.args.unit.now in
-    let said = t.args.said in
+    let at = c.args.at in
+    let code = c.args.code.now in
+    let unit = c.args.unit.now in
+    let said = c.args.said in
     let filler = blanks (blocks_for said * block - (front + said)) in
-    let last = c₃.blanks.new.0 in
-    let r₁ = c₁.put_front.new.0 in
-    let r₂ = c₂.put.new.0 in
-    let of-blanks : last ≡ stored (at + (front + said)) filler r₂ = c₃.blanks.ensures ∙ rw c₃.before.blocks-for.ensures in
-    stored-then at (at + 45) (record_front code t.args.n) (unit ++ filler) t.args.room.now r₁ last c₁.put_front.ensures
-    (stored-then (at + 45) (at + (front + said)) unit filler r₁ r₂ last c₂.put.ensures of-blanks
-    (omega (arith, t.requires.1.0)) (omega (arith, blocks-enough said)))
-    (omega (arith, front_length code t.args.n t.requires.0)) (omega (arith, t.requires.1.1.1))
+    let last = c.blanks.new.room in
+    let r₁ = c.put_front.new.room in
+    let r₂ = c.put.new.room in
+    let of-blanks : last ≡ stored (at + (front + said)) filler r₂ = c.blanks.ensures ∙ rw c.blocks_for.ensures in
+    stored-then at (at + 45) (record_front code c.args.n) (unit ++ filler) c.args.room.now r₁ last c.put_front.ensures
+    (stored-then (at + 45) (at + (front + said)) unit filler r₁ r₂ last c.put.ensures of-blanks
+    (omega (arith, c.requires.unit_len)) (omega (arith, blocks-enough said)))
+    (omega (arith, front_length code c.args.n c.requires.code_len)) (omega (arith, c.requires.block_in_bounds))

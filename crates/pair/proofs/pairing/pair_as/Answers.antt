@@ -14,14 +14,13 @@ fill-requires c =
     let e = rw c.pair_by-answer.ensures at c.if-answer-eq0.true in
     let known = pair-known a.pair a.request.now a.res.now fits e in
     let room = lent_fits a.pair a.request.now a.res.now (length a.taken.now) (length a.not_taken.now) c.data_count-n.result c.request_kind.result fits c.request_kind.ensures c.data_count-n.ensures c.lists_fit-fits.ensures (pair_fits a.pair a.request.now a.res.now fits e) in
-    let q = (known.request.lengths.fewest, (known.request.lengths.most, (known.result.lengths.fewest, (known.result.lengths.most, room)))) in
     record {
-      bound = q.0;
-      request_bound = q.1.0;
-      bound_2 = q.1.1.0;
-      res_bound = q.1.1.1.0;
-      request_in_bounds = q.1.1.1.1.0;
-      request_in_bounds_2 = q.1.1.1.1.1;
+      bound = known.request.lengths.fewest;
+      request_bound = known.request.lengths.most;
+      bound_2 = known.result.lengths.fewest;
+      res_bound = known.result.lengths.most;
+      request_in_bounds = room.0;
+      request_in_bounds_2 = room.1;
     }
 
 pub returns-then-answer-eq0 : goal.returns-then-answer-eq0

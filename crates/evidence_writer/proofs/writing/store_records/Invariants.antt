@@ -1,0 +1,25 @@
+-- One record behind the other.
+use Prim.Native.Nat.{◌+◌, ◌-◌, ◌*◌, ◌≤◌}
+use lib.ListN.{length}
+use mathlib.Core.Path.{◌≡◌, refl, sym}
+use native.Mathlib.Omega.{arith}
+use borrow.Author.Rules.{rules}
+use Rattle.laws.specs.Joined.{joined}
+use Rattle.laws.specs.Stored.{stored}
+use Rattle.laws.proofs.Joins.{joined-start, joined-more}
+use Rattle.evidence.specs.Blocks.{block, blocks_for}
+use Rattle.evidence.proofs.Walks.{blocks-tight}
+use Rattle.evidence_units.specs.Units.{said_at}
+use Rattle.evidence_builder.specs.Units.{place_of, said_by, unit_of, blocks_to}
+use Rattle.evidence_builder.specs.Files.{record_of}
+use Rattle.evidence_builder.proofs.Walked.{place-first, place-more}
+use Rattle.laws.proofs.Stores.{stored-then, stored-none}
+use Rattle.evidence_writer.proofs.Built.{records-long}
+use Rattle.evidence_writer.proofs.Units.{blocks-first, blocks_more, blocks-up}
+use Rattle.evidence_writer.proofs.writing.store_records.Given as goal
+
+abbrev pub invariant-loop-i : goal.invariant-loop-i
+invariant-loop-i l = (l.i ≤ l.n) × (l.p ≡ place_of l.x l.i) × (l.at ≡ block + blocks_to l.x l.i * block) × (length l.room ≡ length l.initial.room) × (l.room ≡ stored block (joined (record_of l.code l.x) l.i) l.initial.room)
+
+abbrev pub decreases-loop-i : goal.decreases-loop-i
+decreases-loop-i l = l.n - l.i
