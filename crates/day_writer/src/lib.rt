@@ -1,5 +1,6 @@
 // A day file written, decided before the first byte is stored.
 #![tactic(auto)]
+
 mod deciding;
 mod storing;
 pub mod writing;

@@ -1,0 +1,22 @@
+-- A yes counts nothing.
+use native.Mathlib.Omega.{arith}
+use Rattle.changes_writer.specs.Building.{one_if}
+use Rattle.changes_writer.proofs.Built.{no-yes, no_other}
+use borrow.Author.Rules.{rules}
+use Rattle.changes_writer.proofs.counting.one_if.Goals as goal
+
+pub returns-then-answers-i-eq0 : goal.returns-then-answers-i-eq0
+unfolding one_if
+returns-then-answers-i-eq0 c =
+    record {
+      value = rw (no-yes _ _ c.if-answers-i-eq0.true);
+      upper_bound = omega arith;
+    }
+
+pub returns : goal.returns
+unfolding one_if
+returns c =
+    record {
+      value = rw (no_other _ _ c.if-answers-i-eq0.false);
+      upper_bound = omega arith;
+    }

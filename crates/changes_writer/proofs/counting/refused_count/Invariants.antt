@@ -1,0 +1,17 @@
+-- The count so far.
+use Prim.Native.Nat.{◌≤◌, ◌-◌}
+use mathlib.Core.Path.{◌≡◌, sym}
+use native.Mathlib.Nat.{le_antisymm}
+use native.Mathlib.Omega.{arith}
+use lib.ListN.{length}
+use Rattle.laws.specs.Sum
+use Rattle.laws.proofs.Sums.{sum-start, sum_more}
+use Rattle.changes_writer.specs.Building.{one_if, refused_to}
+use borrow.Author.Rules.{rules}
+use Rattle.changes_writer.proofs.counting.refused_count.Given as goal
+
+abbrev pub invariant-loop-i : goal.invariant-loop-i
+invariant-loop-i l = (l.i ≤ length l.answers) × (l.m ≡ Sum.sum (one_if l.answers) l.i) × (l.m ≤ l.i)
+
+abbrev pub decreases-loop-i : goal.decreases-loop-i
+decreases-loop-i l = length l.answers - l.i

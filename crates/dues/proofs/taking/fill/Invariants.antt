@@ -1,0 +1,19 @@
+-- The list is filled from the front.
+use Prim.Native.Nat.{◌≤◌, ◌-◌}
+use Rattle.laws.proofs.Tabs.{fill_start, fill_more}
+use Rattle.laws.specs.Tabulate.{tabulate}
+use Rattle.matching.proofs.Found.{left-of, result_fits}
+use Rattle.matching.specs.Amounts.{taken_at}
+use lib.ListN.{length, drop, length-set}
+use mathlib.Core.List.{◌++◌}
+use mathlib.Core.Path.{◌≡◌, refl, ◌∙◌}
+use native.Mathlib.Nat.{le_antisymm}
+use native.Mathlib.Omega.{arith}
+use borrow.Author.Rules.{rules}
+use Rattle.dues.proofs.taking.fill.Given as goal
+
+abbrev pub invariant-loop-i : goal.invariant-loop-i
+invariant-loop-i l = (l.i ≤ l.n) × (l.taken ≡ tabulate (taken_at l.pair l.request l.res) l.i ++ drop l.i l.initial.taken) × (length l.taken ≡ length l.initial.taken)
+
+abbrev pub decreases-loop-i : goal.decreases-loop-i
+decreases-loop-i l = l.n - l.i
