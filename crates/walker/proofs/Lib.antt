@@ -2,4 +2,3 @@
 pub mod Steps
 pub mod Records
 pub mod Stepped
-pub mod Lending
