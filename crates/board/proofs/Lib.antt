@@ -12,5 +12,3 @@ pub mod Once
 pub mod First
 pub mod Stepped
 pub mod Whole
-pub mod Lending
-pub mod Arrays

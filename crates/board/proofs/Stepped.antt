@@ -13,7 +13,7 @@ use Rattle.laws.proofs.Tabs.{fill-at}
 use Rattle.laws.specs.Tabulate.{tabulate}
 use Rattle.answers.specs.declared.told.Answer.{Answer}
 use Rattle.answers.specs.Answers.{accepted, refused_at, refuses, first_told, ◌then◌}
-use Rattle.answers.proofs.Refusals.{refuses-not, refuses-zero, refuses-other, then-first, then-second, then-zero, told_same}
+use Rattle.answers.proofs.Refusals.{refuses-not, refuses-zero, refuses-other, then-first, then-zero, told_same}
 use Rattle.keys.specs.Chains.{slots, links_of}
 use Rattle.keys.proofs.Chained.{chained}
 use Rattle.payers.specs.declared.members.Member.{Member}

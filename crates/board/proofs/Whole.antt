@@ -1,6 +1,6 @@
 -- A posting from its parts: what is known beforehand lets the passes begin, and with what they tell it is the posting as it is defined.
 -- Assumes nothing.
-use Prim.Native.Nat.{ℕ, ◌+◌, ◌*◌, ◌≤◌, ◌<◌}
+use Prim.Native.Nat.{ℕ, ◌+◌, ◌*◌, ◌≤◌}
 use native.Mathlib.Nat.{le_refl, le_trans}
 use native.Mathlib.Omega.{arith}
 use mathlib.Core.Bool.{Bool, true, false, cond}
@@ -8,24 +8,24 @@ use mathlib.Core.List.{List}
 use mathlib.Core.Path.{◌≡◌, sym, ◌∙◌, ap, subst}
 use mathlib.Core.Logic.{⊎_elim}
 use lib.Dec.{leb→le}
-use lib.ListN.{length, get_or, replicate, length-replicate}
+use lib.ListN.{length, replicate, length-replicate}
 use Rattle.laws.specs.Tabulate.{tabulate}
 use Rattle.laws.proofs.Bools.{either}
 use Rattle.laws.proofs.Tabs.{tab-at}
 use Rattle.kinds.specs.Kinds.{limit}
 use Rattle.answers.specs.declared.told.Answer.{Answer}
-use Rattle.answers.specs.Answers.{refuses, first_told, ◌then◌}
+use Rattle.answers.specs.Answers.{refuses, ◌then◌}
 use Rattle.answers.proofs.Refusals.{told_same}
 use Rattle.keys.specs.Chains.{slots, no_links}
 use Rattle.payers.specs.declared.members.Member.{Member}
 use Rattle.dues.specs.declared.ready.Ready.{Ready}
 use Rattle.dues.specs.declared.steps.Posted.{Posted}
 use Rattle.payers.specs.Payers.{members_after, due_number, due_tells, dues_tell_at, dues_tell}
-use Rattle.dues.specs.Posting.{ready_told, board_told, board_after, dates_after}
+use Rattle.dues.specs.Posting.{ready_told, board_after}
 use Rattle.payers.specs.Turns.{held, dues_key, listed}
 use Rattle.dues.specs.Steps.{ready_count, ready_dates, ready_list, ready_of, mark_tells, settling_tells, posted_dates, posted_of, board_posted}
 use Rattle.dues.proofs.Bounded.{ready-few, ready-word, list_length, ready-inside, ready-small}
-use Rattle.dues.proofs.Whole.{first_said, last_said, Marked, Posting, posting-whole}
+use Rattle.dues.proofs.Whole.{first_said, last_said, Posting, posting-whole}
 use Rattle.board.specs.Passing.{links_lent, room_lent, SeekBegins, PassesAsk, dues_told, dues_board}
 
 -- the arrays are long enough, and no payer is held in them yet
