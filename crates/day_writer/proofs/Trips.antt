@@ -125,7 +125,7 @@ write-exact names lengths bodies = (
   λ e.
       let k = written-taken names lengths bodies e in
       record { file = file_for names lengths bodies; good = k.good; names_of = k.names-kept; lengths-of = k.lengths-kept; bodies_of = k.bodies_kept },
-  λ c. rw (c.names_of, c.lengths-of, c.bodies_of) at (taken-written c.file c.well-formed).good,
+  λ c. rw (c.names_of, c.lengths-of, c.bodies_of) at (taken-written c.file c.good).good,
 )
 
 -- *One day file*: no two things that the writer accepts give the same file

@@ -1,0 +1,19 @@
+-- One digit after the other, then the end.
+use Prim.Native.Nat.{◌≤◌, ◌-◌}
+use Rattle.posting.specs.Lines.{number_then}
+use Rattle.posting.proofs.Widths.{number-length, number-digit, number-end}
+use Rattle.posting.proofs.Following.{put_last}
+use lib.ListN.{length, length-set}
+use lib.Seq.{paste, paste-zero, paste-suc}
+use mathlib.Core.Path.{◌≡◌, refl}
+use native.Mathlib.Nat.{le_antisymm}
+use native.Mathlib.Numerals.{add-one}
+use native.Mathlib.Omega.{arith}
+use borrow.Author.Rules.{rules}
+use Rattle.posting.proofs.puts.put_number.Given as goal
+
+abbrev pub invariant-loop-i : goal.invariant-loop-i
+invariant-loop-i l = (l.i ≤ l.w) × (l.text ≡ paste l.initial.text l.at (number_then l.n l.end) l.i) × (length l.text ≡ length l.initial.text)
+
+abbrev pub decreases-loop-i : goal.decreases-loop-i
+decreases-loop-i l = l.w - l.i
