@@ -1,6 +1,6 @@
 -- What a search along a chain tells: whether a key is an earlier one, and the first key that is the one looked for, which is met last.
 -- Assumes nothing.
-use Prim.Native.Nat.{ℕ, ◌+◌, ◌-◌, ◌≤◌, ◌<◌, zero-le}
+use Prim.Native.Nat.{ℕ, ◌+◌, ◌-◌, ◌≤◌, ◌<◌}
 use mathlib.Core.Bool.{Bool, true, false}
 use mathlib.Core.List.{List}
 use mathlib.Core.Path.{◌≡◌, sym, ◌∙◌, ap}
@@ -13,7 +13,7 @@ use lib.ListN.{get_or}
 use Rattle.laws.specs.Part.{same}
 use Rattle.laws.proofs.Bools.{either, clash}
 use Rattle.laws.proofs.Leasts.{least-is, least-only}
-use Rattle.laws.proofs.Parts.{same-equal, same_self}
+use Rattle.laws.proofs.Parts.{same-equal}
 use Rattle.keys.specs.Keys.{shares_in, repeats_in, has_key_in, place_in}
 use Rattle.keys.specs.Chains.{slots, last, slot_of, in_slot, Chained, Link}
 use Rattle.keys.proofs.Chained.{last-start, last-above, last_some, last-same, slot-within, slot_has}

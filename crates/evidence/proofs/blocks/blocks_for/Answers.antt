@@ -1,7 +1,6 @@
 -- The definition itself.
 use Rattle.evidence.specs.Blocks.{blocks_for}
 use mathlib.Core.Path.{refl}
-use borrow.Author.Rules.{rules}
 use Rattle.evidence.proofs.blocks.blocks_for.Goals as goal
 
 pub returns : goal.returns

@@ -5,7 +5,6 @@ use Rattle.evidence.specs.Blocks.{length_at}
 use Rattle.evidence.proofs.Walks.{block_inside}
 use mathlib.Core.Path.{◌∙◌, ap}
 use native.Mathlib.Omega.{arith}
-use borrow.Author.Rules.{rules}
 use Rattle.evidence.proofs.blocks.length.Goals as goal
 
 pub overflow_mul-b : goal.overflow_mul-b

@@ -3,7 +3,6 @@ use Rattle.answers.proofs.Refusals.{number_of, then-first, then-second}
 use Rattle.evidence.specs.Judged.{block_told}
 use mathlib.Core.Path.{sym, ◌∙◌}
 use Rattle.evidence.proofs.Told.{length-passed}
-use borrow.Author.Rules.{rules}
 use Rattle.evidence.proofs.judged.block_tells.Goals as goal
 
 pub returns-then-of_items-ne0 : goal.returns-then-of_items-ne0

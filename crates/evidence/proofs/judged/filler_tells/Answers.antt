@@ -5,7 +5,6 @@ use Rattle.evidence.specs.Blocks.{length_at}
 use Rattle.evidence.proofs.Within.{next-inside}
 use Rattle.evidence.proofs.Walks.{blocks-enough, blocks-tight}
 use native.Mathlib.Omega.{arith}
-use borrow.Author.Rules.{rules}
 use Rattle.evidence.proofs.judged.filler_tells.Goals as goal
 
 pub overflow_mul-blocks_for : goal.overflow_mul-blocks_for

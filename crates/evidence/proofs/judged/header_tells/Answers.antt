@@ -3,7 +3,6 @@ use Rattle.evidence_rows.specs.Tables.{header_rows}
 use Rattle.evidence.specs.Judged.{header_told}
 use Rattle.evidence.proofs.Rows.{header-fits, table-judges, table-tells}
 use native.Mathlib.Omega.{arith}
-use borrow.Author.Rules.{rules}
 use Rattle.evidence.proofs.judged.header_tells.Goals as goal
 
 pub judge_rows-requires : goal.judge_rows-requires

@@ -4,7 +4,6 @@ use Rattle.evidence.specs.Judged.{items_told}
 use Rattle.evidence.proofs.Rows.{data-fits, table-judges, table-tells}
 use Rattle.evidence.proofs.Walks.{block_inside}
 use native.Mathlib.Omega.{arith}
-use borrow.Author.Rules.{rules}
 use Rattle.evidence.proofs.judged.items_tell.Goals as goal
 
 pub overflow_mul-b : goal.overflow_mul-b

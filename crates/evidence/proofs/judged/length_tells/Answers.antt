@@ -2,10 +2,8 @@
 use Rattle.evidence.specs.Blocks.{kind_at, next_of}
 use Rattle.evidence.specs.Judged.{length_told}
 use Rattle.evidence.proofs.Walks.{blocks-tight}
-use mathlib.Core.Logic.{⊎_elim}
 use native.Mathlib.Omega.{arith}
 use borrow.Author.Tests.{le-leb, lt-leb}
-use borrow.Author.Rules.{rules}
 use Rattle.evidence.proofs.judged.length_tells.Goals as goal
 use Rattle.evidence.proofs.judged.length_tells.Goals.{then-length_good+else-b-blocks_for, else-length_good}
 

@@ -1,17 +1,13 @@
 -- The loop goes from record to record until the last block, the limit or the first that is refused.
-use Prim.Native.Nat.{◌+◌, ◌-◌, ◌≤◌, ◌<◌}
-use Rattle.answers.proofs.Refusals.{So-far, told_more, number_of}
-use Rattle.kinds.specs.Kinds.{limit}
+use Prim.Native.Nat.{◌+◌, ◌<◌}
+use Rattle.answers.proofs.Refusals.{told_more, number_of}
 use Rattle.laws.proofs.Leasts.{least_start}
 use Rattle.laws.proofs.Tabs.{fill_start, fill_more}
-use Rattle.laws.specs.Tabulate.{tabulate}
 use Rattle.evidence.specs.Blocks.{last_block, next_of, start_of}
 use Rattle.evidence.specs.Judged.{record_told, byte_of}
-use Rattle.evidence.proofs.Walks.{UnderWay, start_first, start-more, way-more, way-met, way_end, blocks-some}
+use Rattle.evidence.proofs.Walks.{start_first, start-more, way-more, way-met, way_end, blocks-some}
 use Rattle.evidence.proofs.Told.{block-fits, record-limit, record-block, records-stop, records-good}
-use borrow.Author.Rules.{rules}
-use lib.ListN.{length, drop, length-set}
-use mathlib.Core.List.{◌++◌}
+use lib.ListN.{length-set}
 use mathlib.Core.Path.{◌≡◌, refl, sym, ◌∙◌}
 use native.Mathlib.Omega.{arith}
 use Rattle.evidence.proofs.judged.records_tell.Goals as goal

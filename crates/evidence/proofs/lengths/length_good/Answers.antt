@@ -1,6 +1,5 @@
 -- By the profile, then the two tests in their order.
 use Rattle.evidence.specs.Judged.{length_good}
-use borrow.Author.Rules.{rules}
 use borrow.Author.Tests.{lt-ltb, le-ltb}
 use Rattle.evidence.proofs.lengths.length_good.Goals as goal
 

@@ -5,7 +5,6 @@ use Rattle.evidence.specs.declared.reading.Looked.{Looked}
 use Rattle.evidence.specs.Blocks.{start_of}
 use Rattle.evidence.proofs.Looked.{read_all}
 use Rattle.evidence.proofs.Shown.{Stands, stands, shown-refused, shown-from, shown-nowhere}
-use borrow.Author.Rules.{rules}
 use mathlib.Core.Path.{sym, ap, ◌∙◌}
 use native.Mathlib.Nat.{mul-div_cancel}
 use native.Mathlib.Omega.{arith}

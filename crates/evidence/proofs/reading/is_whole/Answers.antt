@@ -1,6 +1,5 @@
 -- The two tests, in their order.
 use Rattle.evidence.specs.Reading.{is_whole}
-use borrow.Author.Rules.{rules}
 use borrow.Author.Tests.{eq-eqb, ne_eqb}
 use Rattle.evidence.proofs.reading.is_whole.Goals as goal
 

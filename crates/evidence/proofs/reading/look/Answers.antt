@@ -3,7 +3,6 @@ use Rattle.answers.proofs.Refusals.{number_of}
 use Rattle.evidence.specs.Judged.{byte_of}
 use Rattle.evidence.specs.Reading.{places_of}
 use Rattle.evidence.proofs.Looked.{sizes-good, at_size, at-header, good-records, at_records, at_rest, all-good, records-few, unit-inside, places-none, place_at, places-long, first-inside}
-use borrow.Author.Rules.{rules}
 use mathlib.Core.Path.{sym, ◌∙◌}
 use native.Mathlib.Omega.{arith}
 use Rattle.evidence.proofs.reading.look.Goals as goal

@@ -1,5 +1,4 @@
 -- The answer alone.
-use borrow.Author.Rules.{rules}
 use Rattle.evidence.specs.declared.reading.Looked.{Looked}
 use mathlib.Core.Path.{ap}
 use Rattle.evidence.proofs.reading.read.Goals as goal

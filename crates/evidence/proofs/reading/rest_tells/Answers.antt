@@ -6,7 +6,6 @@ use Rattle.evidence.specs.Judged.{unit_byte}
 use Rattle.evidence.specs.Reading.{signed_told}
 use Rattle.answers.proofs.Refusals.{then-first, then-second}
 use mathlib.Core.Path.{sym, ◌∙◌}
-use borrow.Author.Rules.{rules}
 use Rattle.evidence.proofs.reading.rest_tells.Goals as goal
 
 pub returns-then-of_trailer-ne0 : goal.returns-then-of_trailer-ne0

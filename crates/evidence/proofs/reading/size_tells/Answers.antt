@@ -1,6 +1,5 @@
 -- Whole first, then not too many.
 use Rattle.evidence.specs.Reading.{size_told}
-use borrow.Author.Rules.{rules}
 use borrow.Author.Tests.{le-leb, lt-leb}
 use Rattle.evidence.proofs.reading.size_tells.Goals as goal
 

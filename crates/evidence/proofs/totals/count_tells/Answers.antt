@@ -1,6 +1,5 @@
 -- By whether it is said.
 use Rattle.evidence.specs.Reading.{count_told}
-use borrow.Author.Rules.{rules}
 use Rattle.evidence.proofs.totals.count_tells.Goals as goal
 
 pub returns-then-said : goal.returns-then-said

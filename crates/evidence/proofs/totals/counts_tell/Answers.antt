@@ -3,7 +3,6 @@ use Rattle.answers.proofs.Refusals.{then-first, then-second}
 use Rattle.evidence.specs.Reading.{counts_told}
 use mathlib.Core.Path.{sym, ◌∙◌}
 use native.Mathlib.Omega.{arith}
-use borrow.Author.Rules.{rules}
 use Rattle.evidence.proofs.totals.counts_tell.Goals as goal
 
 pub returns-then-of_header-ne0 : goal.returns-then-of_header-ne0

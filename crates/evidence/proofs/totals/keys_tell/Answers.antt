@@ -7,7 +7,6 @@ use Rattle.evidence.specs.Reading.{repeat_told}
 use Rattle.evidence.proofs.Within.{keys-inside, keys-by}
 use native.Mathlib.Omega.{arith}
 use borrow.Author.Tests.{lt-ltb, le-ltb}
-use borrow.Author.Rules.{rules}
 use Rattle.evidence.proofs.totals.keys_tell.Goals as goal
 
 pub chain-requires : goal.chain-requires

@@ -1,14 +1,11 @@
 -- The search looks for a row of this kind and this extension.
-use Prim.Native.Nat.{◌≤◌, ◌-◌}
-use Rattle.laws.specs.Least.{least}
 use Rattle.laws.proofs.Leasts.{least_start, least_more, some-true, some-false}
-use Rattle.evidence_kinds.specs.Evidence.{allow, allowed, name_of, allows_at, extension}
+use Rattle.evidence_kinds.specs.Evidence.{allowed, allows_at, extension}
 use borrow.Author.Rules.{rules}
 use borrow.Author.Tests.{eq-eqb, ne_eqb}
 use lib.ListN.{length, get_or}
-use mathlib.Core.Path.{◌≡◌, sym}
+use mathlib.Core.Path.{sym}
 use native.Mathlib.Nat.{le_antisymm}
-use native.Mathlib.Omega.{arith}
 use Rattle.evidence_kinds.proofs.allowed.extension.Goals as goal
 
 pub loop-i-init : goal.loop-i-init

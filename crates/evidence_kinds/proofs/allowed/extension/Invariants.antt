@@ -1,14 +1,9 @@
 -- The search looks for a row of this kind and this extension.
 use Prim.Native.Nat.{◌≤◌, ◌-◌}
 use Rattle.laws.specs.Least.{least}
-use Rattle.laws.proofs.Leasts.{least_start, least_more, some-true, some-false}
-use Rattle.evidence_kinds.specs.Evidence.{allow, allowed, name_of, allows_at, extension}
-use borrow.Author.Rules.{rules}
-use borrow.Author.Tests.{eq-eqb, ne_eqb}
-use lib.ListN.{length, get_or}
-use mathlib.Core.Path.{◌≡◌, sym}
-use native.Mathlib.Nat.{le_antisymm}
-use native.Mathlib.Omega.{arith}
+use Rattle.evidence_kinds.specs.Evidence.{allowed, name_of, allows_at}
+use lib.ListN.{length}
+use mathlib.Core.Path.{◌≡◌}
 use Rattle.evidence_kinds.proofs.allowed.extension.Given as goal
 
 abbrev pub invariant-loop-i : goal.invariant-loop-i

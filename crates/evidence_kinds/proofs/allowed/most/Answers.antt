@@ -1,5 +1,5 @@
 -- The search looks for the first row of the kind.
-use Prim.Native.Nat.{ℕ, ◌≤◌, ◌-◌}
+use Prim.Native.Nat.{ℕ}
 use Rattle.laws.specs.Least.{least}
 use Rattle.laws.proofs.Leasts.{least_start, least_more, least-stop}
 use Rattle.evidence_kinds.specs.Evidence.{sizes, none, kind_is, most_at, most_of}

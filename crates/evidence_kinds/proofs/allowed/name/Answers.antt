@@ -1,7 +1,6 @@
 -- Byte by byte.
 use Rattle.evidence_kinds.specs.Evidence.{name_of}
 use native.Mathlib.Omega.{arith}
-use borrow.Author.Rules.{rules}
 use Rattle.evidence_kinds.proofs.allowed.name.Goals as goal
 
 pub returns : goal.returns

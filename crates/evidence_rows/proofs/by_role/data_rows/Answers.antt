@@ -1,5 +1,4 @@
 -- By the profile.
-use borrow.Author.Rules.{rules}
 use Rattle.evidence_rows.proofs.by_role.data_rows.Goals as goal
 
 pub returns-then-partly_exempt : goal.returns-then-partly_exempt

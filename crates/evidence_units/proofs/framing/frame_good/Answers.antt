@@ -1,10 +1,6 @@
 -- Another kind, no evidence, or the frame.
 use mathlib.Core.Path.{sym, ◌∙◌}
 use Rattle.evidence_units.proofs.Framed.{other-good, empty-good, signed-good}
-use borrow.Author.Rules.{rules}
-use Rattle.evidence_units.proofs.framing.frame_good.Reads as reads
-use Rattle.evidence_units.proofs.framing.frame_good.Lts as lts
-use Rattle.signed.proofs.frames.is_signed.Reads as is-signed-reads
 use Rattle.evidence_units.proofs.framing.frame_good.Goals as goal
 
 -- src/framing.rt:18:9

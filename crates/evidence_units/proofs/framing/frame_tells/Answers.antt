@@ -3,15 +3,6 @@ use mathlib.Core.Bool.{true, false}
 use mathlib.Core.Path.{◌≡◌, sym, ◌∙◌}
 use Rattle.evidence_units.specs.Units.{sort_at, evidence_at}
 use Rattle.evidence_units.specs.Frames.{frame_good, frame_told}
-use borrow.Author.Rules.{rules}
-use Rattle.evidence_units.proofs.framing.frame_tells.Reads as reads
-use Rattle.evidence_units.proofs.framing.frame_tells.Lts as lts
-use Rattle.answers.proofs.told.Answer.accepted.Reads as accepted-reads
-use Rattle.answers.proofs.told.Answer.refused_at.Reads as refused-at-reads
-use Rattle.evidence_units.proofs.framing.frame_good.Reads as frame-good-reads
-use Rattle.evidence_units.proofs.items.said.Reads as said-reads
-use Rattle.text.proofs.parts.byte.Reads as byte-Reads
-use Rattle.text.proofs.parts.part.Reads as part-reads
 use Rattle.evidence_units.proofs.framing.frame_tells.Goals as goal
 
 -- src/framing.rt:33:9

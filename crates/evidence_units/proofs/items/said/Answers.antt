@@ -3,7 +3,6 @@ use Rattle.numbers.proofs.Values.{value-size}
 use Rattle.numbers.specs.Numbers.{value_of}
 use Rattle.evidence_units.specs.Units.{said_at}
 use mathlib.Core.Path.{◌∙◌, ap}
-use borrow.Author.Rules.{rules}
 use Rattle.evidence_units.proofs.items.said.Goals as goal
 
 pub returns : goal.returns

@@ -1,14 +1,9 @@
 -- Down the chain: what is found among the first `from` keys is what is found among the first `at`.
-use Prim.Native.Nat.{◌+◌, ◌-◌, zero-le}
-use Rattle.keys.proofs.Chained.{last-start, link-more, link-less, along-stop, along-more}
-use Rattle.keys.specs.Chains.{slots, last, slot_of, Link}
+use Rattle.keys.specs.Chains.{last, slot_of, Link}
 use Rattle.keys.specs.Keys.{has_key_in}
 use Rattle.keys.specs.Stands.{key_in}
 use mathlib.Core.List.{[]}
-use mathlib.Core.Path.{◌≡◌, refl, sym, ◌∙◌}
-use native.Mathlib.Nat.{le_antisymm}
-use native.Mathlib.Omega.{arith}
-use borrow.Author.Rules.{rules}
+use mathlib.Core.Path.{◌≡◌}
 use Rattle.keys.proofs.chains.along.Given as goal
 
 abbrev pub invariant-loop-at : goal.invariant-loop-at

@@ -3,7 +3,6 @@ use Prim.Native.Nat.{◌+◌}
 use Rattle.keys.proofs.Chained.{link-before, along-before, slot-here}
 use Rattle.keys.specs.Chains.{slots}
 use native.Mathlib.Omega.{arith}
-use borrow.Author.Rules.{rules}
 use Rattle.keys.proofs.chains.before.Goals as goal
 
 pub bounds-links-i : goal.bounds-links-i

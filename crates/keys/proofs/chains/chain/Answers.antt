@@ -1,10 +1,8 @@
 -- One key after the other.
-use Prim.Native.Nat.{◌-◌, ◌≤◌, zero-le}
+use Prim.Native.Nat.{zero-le}
 use Rattle.keys.proofs.Chained.{links-start, links-more, links-length, chained}
-use Rattle.keys.specs.Chains.{links_of}
-use Rattle.keys.specs.Stands.{key_in}
 use lib.ListN.{length}
-use mathlib.Core.Path.{◌≡◌, sym, ◌∙◌, ap}
+use mathlib.Core.Path.{sym, ◌∙◌, ap}
 use native.Mathlib.Nat.{le_antisymm}
 use native.Mathlib.Numerals.{add-one-le}
 use native.Mathlib.Omega.{arith}

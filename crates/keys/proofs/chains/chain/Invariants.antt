@@ -1,15 +1,8 @@
 -- One key after the other.
-use Prim.Native.Nat.{◌-◌, ◌≤◌, zero-le}
-use Rattle.keys.proofs.Chained.{links-start, links-more, links-length, chained}
+use Prim.Native.Nat.{◌-◌, ◌≤◌}
 use Rattle.keys.specs.Chains.{links_of}
 use Rattle.keys.specs.Stands.{key_in}
-use lib.ListN.{length}
-use mathlib.Core.Path.{◌≡◌, sym, ◌∙◌, ap}
-use native.Mathlib.Nat.{le_antisymm}
-use native.Mathlib.Numerals.{add-one-le}
-use native.Mathlib.Omega.{arith}
-use borrow.Author.Count.{falls}
-use borrow.Author.Rules.{rules}
+use mathlib.Core.Path.{◌≡◌}
 use Rattle.keys.proofs.chains.chain.Given as goal
 
 abbrev pub invariant-loop-i : goal.invariant-loop-i

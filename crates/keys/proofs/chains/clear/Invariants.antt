@@ -1,10 +1,8 @@
 -- From the front, one link after the other.
-use Prim.Native.Nat.{◌≤◌, ◌-◌, zero-le}
-use Rattle.keys.proofs.Chained.{Cleared, cleared_more, cleared-all}
-use lib.ListN.{length, length-set}
-use mathlib.Core.Path.{◌≡◌, refl}
-use native.Mathlib.Nat.{le_antisymm, not-suc-le-zero}
-use borrow.Author.Rules.{rules}
+use Prim.Native.Nat.{◌≤◌, ◌-◌}
+use Rattle.keys.proofs.Chained.{Cleared}
+use lib.ListN.{length}
+use mathlib.Core.Path.{◌≡◌}
 use Rattle.keys.proofs.chains.clear.Given as goal
 
 abbrev pub invariant-loop-i : goal.invariant-loop-i

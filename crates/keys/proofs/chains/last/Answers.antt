@@ -1,7 +1,6 @@
 -- From the slot of the key on.
 use Rattle.keys.proofs.Chained.{link-slot, along-slot, slot-within}
 use native.Mathlib.Omega.{arith}
-use borrow.Author.Rules.{rules}
 use Rattle.keys.proofs.chains.last.Goals as goal
 
 pub overflow_cast-from : goal.overflow_cast-from

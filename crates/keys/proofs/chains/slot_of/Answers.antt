@@ -2,7 +2,6 @@
 use Rattle.keys.proofs.Chained.{slot-within}
 use Rattle.keys.specs.Chains.{slots, slot_of}
 use mathlib.Core.Path.{refl}
-use borrow.Author.Rules.{rules}
 use Rattle.keys.proofs.chains.slot_of.Goals as goal
 
 pub returns : goal.returns

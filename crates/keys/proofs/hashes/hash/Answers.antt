@@ -1,9 +1,7 @@
 -- The number so far is that of the bytes so far.
-use Prim.Native.Nat.{◌≤◌, ◌-◌, ◌<◌}
 use Rattle.keys.proofs.Hashing.{hash-start, hash-more}
-use Rattle.keys.specs.Hashes.{hash_to, hash_of}
-use lib.ListN.{length}
-use mathlib.Core.Path.{◌≡◌, sym}
+use Rattle.keys.specs.Hashes.{hash_of}
+use mathlib.Core.Path.{sym}
 use native.Mathlib.Nat.{le_antisymm}
 use borrow.Author.Rules.{rules}
 use Rattle.keys.proofs.hashes.hash.Goals as goal

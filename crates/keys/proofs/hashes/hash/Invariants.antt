@@ -1,11 +1,8 @@
 -- The number so far is that of the bytes so far.
 use Prim.Native.Nat.{◌≤◌, ◌-◌, ◌<◌}
-use Rattle.keys.proofs.Hashing.{hash-start, hash-more}
-use Rattle.keys.specs.Hashes.{hash_to, hash_of}
+use Rattle.keys.specs.Hashes.{hash_to}
 use lib.ListN.{length}
-use mathlib.Core.Path.{◌≡◌, sym}
-use native.Mathlib.Nat.{le_antisymm}
-use borrow.Author.Rules.{rules}
+use mathlib.Core.Path.{◌≡◌}
 use Rattle.keys.proofs.hashes.hash.Given as goal
 
 abbrev pub invariant-loop-i : goal.invariant-loop-i

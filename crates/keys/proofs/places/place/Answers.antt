@@ -1,13 +1,10 @@
 -- Down the whole chain of the key's slot: the first key that is this one is met last.
 use Prim.Native.Nat.{◌+◌, ◌-◌}
 use Rattle.keys.proofs.Chained.{link-slot, link-more, link-less, slot-within}
-use Rattle.keys.proofs.Searched.{Seen, seen_start, seen_here, seen-past, seen_end}
-use Rattle.keys.specs.Chains.{slots, slot_of, Link}
+use Rattle.keys.proofs.Searched.{seen_start, seen_here, seen-past, seen_end}
+use Rattle.keys.specs.Chains.{slots, slot_of}
 use Rattle.keys.specs.Keys.{has_key_in}
-use Rattle.keys.specs.Stands.{key_in}
-use mathlib.Core.Logic.{⊎_elim}
 use native.Mathlib.Omega.{arith}
-use borrow.Author.Rules.{rules}
 use Rattle.keys.proofs.places.place.Goals as goal
 use Rattle.keys.proofs.places.place.Goals.{then-same, else-same}
 

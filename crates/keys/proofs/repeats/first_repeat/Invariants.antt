@@ -1,18 +1,10 @@
 -- The inner search looks for the key among the earlier ones, along its chain; the outer one for the first that is there.
-use Prim.Native.Nat.{◌+◌, ◌≤◌, ◌-◌, ◌<◌, zero-le}
-use Rattle.laws.proofs.Leasts.{least_start, least_more, least-stop}
+use Prim.Native.Nat.{◌≤◌, ◌-◌, ◌<◌}
 use Rattle.laws.specs.Least.{least}
-use Rattle.keys.proofs.Chained.{link-before, link-more, link-less, along-before, along-stop, along-more, slot-here}
-use Rattle.keys.proofs.Searched.{repeats-found, repeats-none}
-use Rattle.keys.specs.Chains.{slots, last, slot_of, Link}
+use Rattle.keys.specs.Chains.{last, slot_of, Link}
 use Rattle.keys.specs.Keys.{repeats_in, has_key_in}
 use Rattle.keys.specs.Stands.{key_in}
-use mathlib.Core.Path.{◌≡◌, sym, ◌∙◌}
-use native.Mathlib.Nat.{le_antisymm}
-use native.Mathlib.Numerals.{add-one-le}
-use native.Mathlib.Omega.{arith}
-use borrow.Author.Count.{falls}
-use borrow.Author.Rules.{rules}
+use mathlib.Core.Path.{◌≡◌}
 use Rattle.keys.proofs.repeats.first_repeat.Given as goal
 
 abbrev pub invariant-loop-at : goal.invariant-loop-at

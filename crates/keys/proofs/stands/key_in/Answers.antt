@@ -1,7 +1,6 @@
 -- A part of s.
 use Rattle.keys.proofs.Steps.{times-fits, offset-fits, start_fits}
 use Rattle.keys.specs.Stands.{start_of, key_in}
-use borrow.Author.Rules.{rules}
 use Rattle.keys.proofs.stands.key_in.Goals as goal
 
 pub overflow_mul-start : goal.overflow_mul-start

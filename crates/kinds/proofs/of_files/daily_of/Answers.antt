@@ -1,6 +1,5 @@
 -- The kind that the number names, where its form goes into a day file.
 use Rattle.kinds.specs.Kinds.{daily_of}
-use borrow.Author.Rules.{rules}
 use Rattle.kinds.proofs.of_files.daily_of.Goals as goal
 
 pub returns-then-of : goal.returns-then-of

@@ -1,6 +1,5 @@
 -- The kind that the number names, where its form is written.
 use Rattle.kinds.specs.Kinds.{request_of}
-use borrow.Author.Rules.{rules}
 use Rattle.kinds.proofs.of_files.request_of.Goals as goal
 
 pub returns-then-of : goal.returns-then-of

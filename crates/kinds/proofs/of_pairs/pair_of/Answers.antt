@@ -1,12 +1,9 @@
 -- The search looks for the name, pair kind by pair kind.
-use Prim.Native.Nat.{◌≤◌, ◌-◌}
 use Rattle.laws.proofs.Leasts.{least_start, least_more, least-stop}
-use Rattle.laws.specs.Least.{least}
 use Rattle.kinds.specs.Pairs.{no_pair, pairs, request_is, pair_from, pair_of}
 use borrow.Author.Rules.{rules}
 use borrow.Author.Tests.{eq-eqb, ne_eqb, lt-ltb}
 use lib.ListN.{length, get_or}
-use mathlib.Core.Path.{◌≡◌}
 use native.Mathlib.Nat.{le_antisymm}
 use Rattle.kinds.proofs.of_pairs.pair_of.Goals as goal
 

@@ -1,5 +1,4 @@
 -- By the family.
-use borrow.Author.Rules.{rules}
 use Rattle.kinds.proofs.of_pairs.result_kind.Goals as goal
 
 pub returns-in-Enrolment : goal.returns-in-Enrolment

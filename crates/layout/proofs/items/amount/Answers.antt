@@ -1,7 +1,6 @@
 -- The amount's thirteen bytes, read.
 use Rattle.numbers.proofs.Values.{value-size}
 use Rattle.numbers.specs.Numbers.{value_of}
-use borrow.Author.Rules.{rules}
 use mathlib.Core.Path.{ap, ◌∙◌}
 use Rattle.layout.proofs.items.amount.Goals as goal
 

@@ -1,5 +1,4 @@
 -- By whether the row has a code.
-use borrow.Author.Rules.{rules}
 use borrow.Author.Tests.{eq-eqb, ne_eqb}
 use Rattle.layout.proofs.judging.broken_at.Goals as goal
 

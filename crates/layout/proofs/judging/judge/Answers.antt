@@ -1,6 +1,5 @@
 -- The rows of the kind, laid out, tell what they tell.
 use Rattle.layout.proofs.Judged.{laid-judged, laid-tells}
-use borrow.Author.Rules.{rules}
 use mathlib.Core.Path.{◌∙◌}
 use Rattle.layout.proofs.judging.judge.Goals as goal
 

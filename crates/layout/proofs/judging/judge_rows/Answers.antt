@@ -1,10 +1,7 @@
 -- The loop looks for the first row that does not hold.
-use Prim.Native.Nat.{◌≤◌, ◌-◌}
 use Rattle.laws.proofs.Leasts.{least_start}
 use Rattle.layout.proofs.Judged.{row-good, rows-stop, rows_end}
-use Rattle.rows.specs.Laid.{most}
-use Rattle.answers.proofs.Refusals.{So-far, told_more}
-use Rattle.layout.specs.Judging.{row_tells}
+use Rattle.answers.proofs.Refusals.{told_more}
 use borrow.Author.Rules.{rules}
 use mathlib.Core.Path.{sym}
 use native.Mathlib.Nat.{le_antisymm}

@@ -1,14 +1,8 @@
 -- The loop looks for the first row that does not hold.
 use Prim.Native.Nat.{◌≤◌, ◌-◌}
-use Rattle.laws.proofs.Leasts.{least_start}
-use Rattle.layout.proofs.Judged.{row-good, rows-stop, rows_end}
 use Rattle.rows.specs.Laid.{most}
-use Rattle.answers.proofs.Refusals.{So-far, told_more}
+use Rattle.answers.proofs.Refusals.{So-far}
 use Rattle.layout.specs.Judging.{row_tells}
-use borrow.Author.Rules.{rules}
-use mathlib.Core.Path.{sym}
-use native.Mathlib.Nat.{le_antisymm}
-use native.Mathlib.Omega.{arith}
 use Rattle.layout.proofs.judging.judge_rows.Given as goal
 
 abbrev pub invariant-loop-i : goal.invariant-loop-i

@@ -1,6 +1,5 @@
 -- Type "1" first, then the amount.
 use Rattle.layout.specs.Rules.{enough}
-use borrow.Author.Rules.{rules}
 use borrow.Author.Tests.{eq-eqb, ne_eqb}
 use Rattle.layout.proofs.rules.enough.Goals as goal
 

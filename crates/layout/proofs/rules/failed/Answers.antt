@@ -1,6 +1,5 @@
 -- The mark, then the code.
 use Rattle.layout.specs.Rules.{failed}
-use borrow.Author.Rules.{rules}
 use borrow.Author.Tests.{eq-eqb, ne_eqb}
 use Rattle.layout.proofs.rules.failed.Goals as goal
 

@@ -1,7 +1,6 @@
 -- Each class by its function.
 use Rattle.layout.specs.Rules.{holds, meets}
 use Rattle.text.specs.Characters.{zeros}
-use borrow.Author.Rules.{rules}
 use Rattle.layout.proofs.rules.holds.Goals as goal
 
 pub returns-in-Each : goal.returns-in-Each

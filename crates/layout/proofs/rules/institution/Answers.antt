@@ -1,7 +1,6 @@
 -- The three tests, in their order.
 use Rattle.layout.specs.Rules.{institution}
 use Rattle.text.specs.Characters.{digits}
-use borrow.Author.Rules.{rules}
 use borrow.Author.Tests.{eq-eqb, ne_eqb}
 use Rattle.layout.proofs.rules.institution.Goals as goal
 

@@ -1,7 +1,6 @@
 -- The four forms, in their order.
 use Rattle.layout.specs.Rules.{office}
 use Rattle.text.specs.Characters.{digits, spaces}
-use borrow.Author.Rules.{rules}
 use borrow.Author.Tests.{eq-eqb, ne_eqb}
 use Rattle.layout.proofs.rules.office.Goals as goal
 

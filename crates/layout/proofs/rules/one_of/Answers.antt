@@ -1,6 +1,5 @@
 -- The three tests, in their order.
 use Rattle.layout.specs.Rules.{one_of}
-use borrow.Author.Rules.{rules}
 use borrow.Author.Tests.{eq-eqb, ne_eqb}
 use Rattle.layout.proofs.rules.one_of.Goals as goal
 

@@ -1,6 +1,5 @@
 -- By item 5.
 use Rattle.layout.specs.Rules.{owner}
-use borrow.Author.Rules.{rules}
 use borrow.Author.Tests.{eq-eqb, ne_eqb}
 use Rattle.layout.proofs.rules.owner.Goals as goal
 

@@ -1,6 +1,5 @@
 -- The mark, then the code or four spaces.
 use Rattle.layout.specs.Rules.{partly}
-use borrow.Author.Rules.{rules}
 use borrow.Author.Tests.{eq-eqb, ne_eqb}
 use Rattle.layout.proofs.rules.partly.Goals as goal
 

@@ -1,10 +1,8 @@
 -- The last digit is dropped until the one that is asked stands last.
 use Prim.Native.Nat.{◌≤◌, ◌<◌}
 use Rattle.numbers.specs.Numbers.{digits_of}
-use Rattle.numbers.proofs.Digits.{digit-down, digit-here, digit-past}
-use borrow.Author.Rules.{rules}
 use lib.ListN.{get_or}
-use mathlib.Core.Path.{◌≡◌, refl, sym, ◌∙◌}
+use mathlib.Core.Path.{◌≡◌}
 use Rattle.numbers.proofs.base_ten.digit_at.Given as goal
 
 abbrev pub invariant-loop-at : goal.invariant-loop-at

@@ -1,6 +1,5 @@
 -- By the place.
 use Rattle.numbers.specs.Numbers.{letter_of}
-use borrow.Author.Rules.{rules}
 use borrow.Author.Tests.{eq-eqb, ne_eqb}
 use Rattle.numbers.proofs.base_ten.letter.Goals as goal
 

@@ -1,10 +1,8 @@
 -- The number so far is what the bytes so far say.
-use Prim.Native.Nat.{◌≤◌, ◌-◌}
 use Rattle.numbers.proofs.Values.{value-start, value-more, value-within}
-use Rattle.numbers.specs.Numbers.{value_to, value_of}
+use Rattle.numbers.specs.Numbers.{value_of}
 use borrow.Author.Rules.{rules}
-use lib.ListN.{length}
-use mathlib.Core.Path.{◌≡◌, sym}
+use mathlib.Core.Path.{sym}
 use native.Mathlib.Nat.{le_antisymm}
 use native.Mathlib.Omega.{arith}
 use Rattle.numbers.proofs.base_ten.number.Goals as goal

@@ -1,13 +1,9 @@
 -- One digit after the other.
 use Prim.Native.Nat.{◌≤◌, ◌-◌}
 use Rattle.numbers.specs.Numbers.{digits_of}
-use Rattle.numbers.proofs.Values.{digits-length}
-use Rattle.laws.proofs.Stores.{paste_more, paste_all}
-use lib.ListN.{length, length-set}
-use lib.Seq.{paste, paste-zero}
-use mathlib.Core.Path.{◌≡◌, refl}
-use native.Mathlib.Omega.{arith}
-use borrow.Author.Rules.{rules}
+use lib.ListN.{length}
+use lib.Seq.{paste}
+use mathlib.Core.Path.{◌≡◌}
 use Rattle.numbers.proofs.base_ten.put_digits.Given as goal
 
 abbrev pub invariant-loop-i : goal.invariant-loop-i

@@ -1,7 +1,6 @@
 -- The three tests, in their order.
 use Rattle.text.specs.Characters.{digits}
 use Rattle.numbers.specs.Numbers.{says}
-use borrow.Author.Rules.{rules}
 use borrow.Author.Tests.{le-leb, lt-leb}
 use Rattle.numbers.proofs.base_ten.says.Goals as goal
 

@@ -1,6 +1,5 @@
 -- Four bytes, one after the other.
 use Rattle.numbers.specs.Numbers.{word_of}
-use borrow.Author.Rules.{rules}
 use Rattle.numbers.proofs.base_ten.word.Goals as goal
 
 pub returns : goal.returns

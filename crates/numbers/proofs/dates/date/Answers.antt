@@ -1,7 +1,6 @@
 -- Six bytes, all digits, and a day that the month has.
 use Rattle.text.specs.Characters.{digits}
 use Rattle.numbers.specs.Dates.{is_date}
-use borrow.Author.Rules.{rules}
 use borrow.Author.Tests.{eq-eqb, ne_eqb}
 use Rattle.numbers.proofs.dates.date.Goals as goal
 

@@ -1,7 +1,6 @@
 -- The table's entry, but for February 29 and past the table.
 use Prim.Native.Nat.{◌≤◌}
 use Rattle.numbers.specs.Dates.{days_of, month_days}
-use borrow.Author.Rules.{rules}
 use lib.ListN.{get_or-eq_default}
 use mathlib.Core.Path.{sym}
 use native.Mathlib.Omega.{arith}

@@ -1,6 +1,5 @@
 -- The two tests, in their order.
 use Rattle.numbers.specs.Dates.{has_day}
-use borrow.Author.Rules.{rules}
 use borrow.Author.Tests.{le-leb, lt-leb}
 use Rattle.numbers.proofs.dates.has_day.Goals as goal
 

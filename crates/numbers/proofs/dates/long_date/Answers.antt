@@ -1,6 +1,5 @@
 -- "20", then a date.
 use Rattle.numbers.specs.Dates.{is_long_date}
-use borrow.Author.Rules.{rules}
 use Rattle.numbers.proofs.dates.long_date.Goals as goal
 
 pub returns-then-of_2000 : goal.returns-then-of_2000

@@ -1,7 +1,6 @@
 -- A date of six digits, and the order of the two numbers.
 use Rattle.numbers.proofs.Values.{is_date-length}
 use Rattle.numbers.specs.Dates.{not_later}
-use borrow.Author.Rules.{rules}
 use mathlib.Core.Path.{sym, ◌∙◌}
 use native.Mathlib.Omega.{arith}
 use Rattle.numbers.proofs.dates.not_later.Goals as goal

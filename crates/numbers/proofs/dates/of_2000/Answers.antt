@@ -1,6 +1,5 @@
 -- The two bytes, in their order.
 use Rattle.numbers.specs.Dates.{of2000}
-use borrow.Author.Rules.{rules}
 use borrow.Author.Tests.{eq-eqb, ne_eqb}
 use Rattle.numbers.proofs.dates.of_2000.Goals as goal
 

@@ -1,7 +1,6 @@
 -- The file's length by the record's size.
 use Rattle.records.proofs.Places.{size-pos}
 use Rattle.records.specs.Records.{count_of}
-use borrow.Author.Rules.{rules}
 use Rattle.records.proofs.listed.count.Goals as goal
 
 pub nonzero_div-result : goal.nonzero_div-result

@@ -1,7 +1,6 @@
 -- A part of the file.
 use Rattle.records.proofs.Places.{record-inside}
 use Rattle.records.specs.Records.{record_at}
-use borrow.Author.Rules.{rules}
 use native.Mathlib.Omega.{arith}
 use Rattle.records.proofs.listed.record_of.Goals as goal
 

@@ -1,13 +1,9 @@
 -- The sum so far.
 use Prim.Native.Nat.{◌≤◌, ◌-◌, ◌*◌, ◌^◌}
-use Rattle.laws.proofs.Sums.{sum-start, sum_more}
 use Rattle.laws.specs.Sum
 use Rattle.records.specs.Records.{data_of}
-use Rattle.records.specs.Quantities.{worth_at, quantity_of}
-use borrow.Author.Rules.{rules}
-use mathlib.Core.Path.{◌≡◌, sym}
-use native.Mathlib.Nat.{le_antisymm}
-use native.Mathlib.Omega.{arith}
+use Rattle.records.specs.Quantities.{worth_at}
+use mathlib.Core.Path.{◌≡◌}
 use Rattle.records.proofs.quantities.quantity_of.Given as goal
 
 abbrev pub invariant-loop-i : goal.invariant-loop-i

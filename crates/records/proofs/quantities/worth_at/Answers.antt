@@ -2,7 +2,6 @@
 use Rattle.tables.proofs.Tiling.{size-least}
 use Rattle.records.proofs.Places.{count_small}
 use Rattle.records.specs.Quantities.{worth_at}
-use borrow.Author.Rules.{rules}
 use native.Mathlib.Omega.{arith}
 use Rattle.records.proofs.quantities.worth_at.Goals as goal
 

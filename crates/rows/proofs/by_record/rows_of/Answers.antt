@@ -1,5 +1,4 @@
 -- Each role of each kind by its table.
-use borrow.Author.Rules.{rules}
 use Rattle.rows.proofs.by_record.rows_of.Goals as goal
 
 pub returns-in-EnrolmentRequest : goal.returns-in-EnrolmentRequest

@@ -1,7 +1,6 @@
 -- By its place.
 use Rattle.tables.specs.Among.{is_among}
 use Rattle.tables.specs.Codes.{table_codes, bank_codes, centre_codes}
-use borrow.Author.Rules.{rules}
 use Rattle.tables.proofs.codes.table_code.Goals as goal
 
 pub returns : goal.returns

@@ -1,6 +1,5 @@
 -- Each pair kind by its table.
 use Rattle.tables.proofs.Counts.{enrolment-count, debit-count}
-use borrow.Author.Rules.{rules}
 use Rattle.tables.proofs.copied.copied_at.Goals as goal
 
 pub enrolment_copied-requires : goal.enrolment_copied-requires

@@ -1,7 +1,6 @@
 -- Each pair kind by its table's length.
 use Rattle.tables.proofs.Counts.{enrolment-count, debit-count}
 use mathlib.Core.Path.{sym}
-use borrow.Author.Rules.{rules}
 use Rattle.tables.proofs.copied.copied_count.Goals as goal
 
 pub returns-in-EnrolmentRequest : goal.returns-in-EnrolmentRequest

@@ -2,7 +2,6 @@
 use Rattle.laws.proofs.Parts.{inside}
 use Rattle.tables.specs.Copied.{no_item, among, items_but, debit_copied}
 use Rattle.tables.specs.Tables.{data_front, debit_data, debit_request_data}
-use borrow.Author.Rules.{rules}
 use Rattle.tables.proofs.copied.debit_copied.Goals as goal
 
 pub returns : goal.returns

@@ -2,7 +2,6 @@
 use Rattle.laws.proofs.Parts.{inside}
 use Rattle.tables.specs.Copied.{no_item, among, items_but, enrolment_copied}
 use Rattle.tables.specs.Tables.{data_front, enrolment_data, enrolment_request_data}
-use borrow.Author.Rules.{rules}
 use Rattle.tables.proofs.copied.enrolment_copied.Goals as goal
 
 pub returns : goal.returns

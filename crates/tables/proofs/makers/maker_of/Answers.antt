@@ -1,7 +1,6 @@
 -- By its place.
 use mathlib.Core.Path.{sym}
 use Rattle.tables.proofs.Making.{bank-found, centre-found, none_found}
-use borrow.Author.Rules.{rules}
 use Rattle.tables.proofs.makers.maker_of.Goals as goal
 
 pub returns-then-place-lt-BANKS : goal.returns-then-place-lt-BANKS

@@ -1,6 +1,5 @@
 -- Each kind by its table.
 use Rattle.tables.specs.Totals.{enrolment_totals, debit_request_totals, debit_result_totals}
-use borrow.Author.Rules.{rules}
 use Rattle.tables.proofs.totals.total_at.Goals as goal
 
 pub enrolment_total-requires : goal.enrolment_total-requires

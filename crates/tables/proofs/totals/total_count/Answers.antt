@@ -1,6 +1,5 @@
 -- Each kind by its table's length.
 use Rattle.tables.specs.Totals.{enrolment_totals, debit_request_totals, debit_result_totals}
-use borrow.Author.Rules.{rules}
 use Rattle.tables.proofs.totals.total_count.Goals as goal
 
 pub returns-in-EnrolmentRequest : goal.returns-in-EnrolmentRequest

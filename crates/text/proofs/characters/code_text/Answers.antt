@@ -1,6 +1,5 @@
 -- What follows the run of digits and capitals is spaces.
 use Rattle.text.specs.Characters.{code_text}
-use borrow.Author.Rules.{rules}
 use Rattle.text.proofs.characters.code_text.Goals as goal
 
 pub returns : goal.returns

@@ -1,6 +1,5 @@
 -- Each byte is taken when all in front are.
 use Rattle.text.specs.Characters.{each}
-use borrow.Author.Rules.{rules}
 use Rattle.text.proofs.characters.each.Goals as goal
 
 pub returns : goal.returns

@@ -1,6 +1,5 @@
 -- The run of digits and capitals is not empty, and spaces follow it.
 use Rattle.text.specs.Characters.{code_text, filled}
-use borrow.Author.Rules.{rules}
 use borrow.Author.Tests.{lt-ltb}
 use native.Mathlib.Nat.{pos_of_ne-zero}
 use Rattle.text.proofs.characters.filled.Goals as goal

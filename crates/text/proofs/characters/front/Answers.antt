@@ -1,11 +1,8 @@
 -- `front` looks for the first byte that the set does not take.
-use Prim.Native.Nat.{◌≤◌, ◌-◌}
 use Rattle.laws.proofs.Leasts.{least_start, least_more, least-stop}
-use Rattle.laws.specs.Least.{least}
 use Rattle.text.specs.Characters.{front, stops_at}
 use borrow.Author.Rules.{rules}
-use lib.ListN.{length}
-use mathlib.Core.Path.{◌≡◌, sym}
+use mathlib.Core.Path.{sym}
 use native.Mathlib.Nat.{le_antisymm}
 use Rattle.text.proofs.characters.front.Goals as goal
 

@@ -1,12 +1,9 @@
 -- `front` looks for the first byte that the set does not take.
 use Prim.Native.Nat.{◌≤◌, ◌-◌}
-use Rattle.laws.proofs.Leasts.{least_start, least_more, least-stop}
 use Rattle.laws.specs.Least.{least}
-use Rattle.text.specs.Characters.{front, stops_at}
-use borrow.Author.Rules.{rules}
+use Rattle.text.specs.Characters.{stops_at}
 use lib.ListN.{length}
-use mathlib.Core.Path.{◌≡◌, sym}
-use native.Mathlib.Nat.{le_antisymm}
+use mathlib.Core.Path.{◌≡◌}
 use Rattle.text.proofs.characters.front.Given as goal
 
 abbrev pub invariant-loop-i : goal.invariant-loop-i

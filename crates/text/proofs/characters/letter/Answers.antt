@@ -1,6 +1,5 @@
 -- The two runs of letters.
 use Rattle.text.specs.Characters.{letter}
-use borrow.Author.Rules.{rules}
 use Rattle.text.proofs.characters.letter.Goals as goal
 
 pub returns-then-within : goal.returns-then-within

@@ -1,6 +1,5 @@
 -- Each byte is a one-byte character when all in front are.
 use Rattle.text.specs.Characters.{one_byte}
-use borrow.Author.Rules.{rules}
 use Rattle.text.proofs.characters.one_byte.Goals as goal
 
 pub returns : goal.returns

@@ -1,6 +1,5 @@
 -- The three sorts of one-byte characters, in the definition's order.
 use Rattle.text.specs.Characters.{takes}
-use borrow.Author.Rules.{rules}
 use Rattle.text.proofs.characters.one_byte_character.Goals as goal
 
 pub returns-then-letter : goal.returns-then-letter

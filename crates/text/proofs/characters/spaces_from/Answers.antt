@@ -1,6 +1,5 @@
 -- What stands there is one byte over and over.
 use Rattle.text.specs.Characters.{spaces}
-use borrow.Author.Rules.{rules}
 use Rattle.text.proofs.characters.spaces_from.Goals as goal
 
 pub returns : goal.returns

@@ -1,6 +1,5 @@
 -- `takes` goes by cases, as its definition does.
 use Rattle.text.specs.Characters.{takes}
-use borrow.Author.Rules.{rules}
 use Rattle.text.proofs.characters.takes.Goals as goal
 
 pub returns-in-From : goal.returns-in-From

@@ -1,5 +1,4 @@
 -- What is shorter begins with nothing longer; else its front is compared.
-use borrow.Author.Rules.{rules}
 use Prim.Native.Nat.{◌-◌}
 use lib.ListN.{length, length-drop}
 use mathlib.Core.Path.{◌≡◌, sym, ap, ◌∙◌}

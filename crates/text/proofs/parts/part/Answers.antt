@@ -1,7 +1,6 @@
 -- A part is what stands between its start and its end.
 use Rattle.laws.proofs.Parts.{part_length}
 use Rattle.laws.specs.Part.{part}
-use borrow.Author.Rules.{rules}
 use native.Mathlib.Nat.{add-sub_cancel_left}
 use Rattle.text.proofs.parts.part.Goals as goal
 

@@ -1,6 +1,5 @@
 -- All from the place on, or nothing.
 use Rattle.laws.proofs.Parts.{rest}
-use borrow.Author.Rules.{rules}
 use lib.ListN.{drop_of_length-le}
 use mathlib.Core.Path.{sym, ◌∙◌}
 use native.Mathlib.Nat.{le_of_lt, le_refl}

@@ -1,12 +1,8 @@
 -- `same` looks for the first place that differs.
-use Prim.Native.Nat.{◌≤◌, ◌-◌}
 use Rattle.laws.proofs.Leasts.{least_start}
 use Rattle.laws.proofs.Parts.{same_not, same_stop, same_more, same_end}
-use Rattle.laws.specs.Least.{least}
-use Rattle.laws.specs.Part.{differ}
 use borrow.Author.Rules.{rules}
-use lib.ListN.{length}
-use mathlib.Core.Path.{◌≡◌, sym}
+use mathlib.Core.Path.{sym}
 use native.Mathlib.Nat.{le_antisymm}
 use Rattle.text.proofs.parts.same.Goals as goal
 

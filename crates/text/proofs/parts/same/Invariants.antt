@@ -1,13 +1,9 @@
 -- `same` looks for the first place that differs.
 use Prim.Native.Nat.{◌≤◌, ◌-◌}
-use Rattle.laws.proofs.Leasts.{least_start}
-use Rattle.laws.proofs.Parts.{same_not, same_stop, same_more, same_end}
 use Rattle.laws.specs.Least.{least}
 use Rattle.laws.specs.Part.{differ}
-use borrow.Author.Rules.{rules}
 use lib.ListN.{length}
-use mathlib.Core.Path.{◌≡◌, sym}
-use native.Mathlib.Nat.{le_antisymm}
+use mathlib.Core.Path.{◌≡◌}
 use Rattle.text.proofs.parts.same.Given as goal
 
 abbrev pub invariant-loop-i : goal.invariant-loop-i

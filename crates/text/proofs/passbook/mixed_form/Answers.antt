@@ -1,6 +1,5 @@
 -- The digit as it stands in the text is the one of the definition.
 use Rattle.text.specs.Passbook.{mixed_with, mixed_form}
-use borrow.Author.Rules.{rules}
 use mathlib.Core.Path.{sym, ◌∙◌}
 use native.Mathlib.Omega.{arith}
 use Rattle.text.proofs.Classes.{within_low, within-high}

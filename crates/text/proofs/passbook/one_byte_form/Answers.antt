@@ -1,6 +1,5 @@
 -- "00", fourteen one-byte characters.
 use Rattle.text.specs.Passbook.{one_byte_form}
-use borrow.Author.Rules.{rules}
 use Rattle.text.proofs.passbook.one_byte_form.Goals as goal
 
 pub returns : goal.returns

@@ -1,6 +1,5 @@
 -- The three forms, in the definition's order.
 use Rattle.text.specs.Passbook.{passbook_form}
-use borrow.Author.Rules.{rules}
 use Rattle.text.proofs.passbook.passbook_form.Goals as goal
 
 pub returns-then-two_byte_form : goal.returns-then-two_byte_form

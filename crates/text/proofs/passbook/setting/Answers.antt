@@ -1,7 +1,6 @@
 -- The length, the mark, the two runs of characters, in the definition's order.
 use Rattle.text.specs.Characters.{two_byte}
 use Rattle.text.specs.Passbook.{setting}
-use borrow.Author.Rules.{rules}
 use borrow.Author.Tests.{eq-eqb, ne_eqb}
 use Rattle.text.proofs.passbook.setting.Goals as goal
 

@@ -1,6 +1,5 @@
 -- No mark, eight two-byte characters.
 use Rattle.text.specs.Passbook.{two_byte_form}
-use borrow.Author.Rules.{rules}
 use Rattle.text.proofs.passbook.two_byte_form.Goals as goal
 
 pub returns : goal.returns

@@ -1,5 +1,4 @@
 -- A refusal that means no body.
-use borrow.Author.Rules.{rules}
 use Rattle.answers.proofs.of_day.DayAnswer.refused.Goals as goal
 
 pub returns : goal.returns

@@ -1,5 +1,4 @@
 -- By the form.
-use borrow.Author.Rules.{rules}
 use Rattle.kinds.proofs.of_files.Fixed.of.Goals as goal
 
 pub returns-in-EnrolmentRequest : goal.returns-in-EnrolmentRequest
