@@ -10,13 +10,13 @@ use Rattle.walker.specs.declared.walking.Step.{Step}
 use Rattle.walker.specs.declared.walking.Step.TheVariants as step
 use Rattle.walker.specs.Walks.{three_of}
 
-pub numbers_of_lem :
+pub five-of :
     (o : Outcome) →
     get_or (numbers_of o) 0 0 ∷ get_or (numbers_of o) 1 0 ∷ get_or (numbers_of o) 2 0 ∷ get_or (numbers_of o) 3 0 ∷ get_or (numbers_of o) 4 0 ∷ [] ≡ numbers_of o
-numbers_of_lem outcome.None = refl
-numbers_of_lem (outcome.Whole taken) = refl
-numbers_of_lem (outcome.Part taken notTaken code maker) = refl
-numbers_of_lem (outcome.Refused notTaken code maker) = refl
+five-of outcome.None = refl
+five-of (outcome.Whole taken) = refl
+five-of (outcome.Part taken notTaken code maker) = refl
+five-of (outcome.Refused notTaken code maker) = refl
 
 pub three-of : (s : Step) → get_or (three_of s) 0 0 ∷ get_or (three_of s) 1 0 ∷ get_or (three_of s) 2 0 ∷ [] ≡ three_of s
 three-of step.None = refl

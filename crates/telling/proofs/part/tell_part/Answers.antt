@@ -1,0 +1,10 @@
+-- The five, then the three.
+use mathlib.Core.Path.{refl}
+use Rattle.telling.proofs.part.tell_part.Goals as goal
+
+pub returns : goal.returns
+returns c =
+    record {
+      value = refl;
+      answer_after = rw c.three-three.ensures;
+    }
