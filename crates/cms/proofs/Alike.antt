@@ -133,7 +133,7 @@ pub record SeenBoard : Type 0 where
 abbrev pub sees-board : List Member → ℕ → List (List ℕ) → SeenBoard
 sees-board ms r ls = record { board = ms; rest = sees r ls }
 
--- what its contract says, whose proof is by hand
+-- what its contract says
 abbrev pub BoardPost : (κ : Lfts 5) → ArgsD board-post.signature κ → ResD board-post.signature κ → AtExit board-post.ended κ → Type 0
 BoardPost κ x r s =
     let told = board_told x.0 x.1.0.now x.1.1.0.now x.1.1.1.0.now x.1.1.1.1.0.now in

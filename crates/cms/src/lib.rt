@@ -1,5 +1,6 @@
 // The face for C: numbers and slices in, numbers out. No rule of its own.
 #![tactic(auto)]
+
 pub mod arrive;
 pub mod of_boards;
 pub mod of_changes;

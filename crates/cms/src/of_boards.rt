@@ -19,6 +19,7 @@ pub extern "C" fn cms_board_post(
     ensures { (result ≡ (board_told pair request.now res.now board.old dates.old).number) × ((board.new ≡ board_after pair request.now res.now board.old dates.old) × ((dates.new ≡ dates_after pair request.now res.now board.old dates.old) × (answer.new ≡ five (board_told pair request.now res.now board.old dates.old)))) }
 {
     let posted = board::posting::post(pair as u64, request, res, board, *dates);
-    *dates = posted.dates;
+    let days = posted.dates;
+    *dates = days;
     tell(posted.answer, answer)
 }
