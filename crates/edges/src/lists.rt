@@ -2,6 +2,8 @@
 ghost use Rattle.std.specs.Prelude.{◌≡◌, length};
 
 use crate::told;
+use std::io;
+use std::io::Print;
 
 // What every place of a list holds before it is lent: more than any amount.
 const UNTOUCHED: u64 = 1_000_000_000_000_000;
@@ -14,20 +16,20 @@ pub(crate) fn untouched() -> [u64; 2001]
 }
 
 // A place of a list; a hyphen where it is as it was.
-fn tell_place(n: u64) {
+fn tell_place(rt: &impl Print, n: u64) -> io::Result<()> {
     if n == UNTOUCHED {
-        told::tell_bytes(b" -");
-        return;
+        return told::tell_bytes(rt, b" -");
     }
-    told::tell_number(n);
+    told::tell_number(rt, n)
 }
 
 // A name, then the places.
-pub(crate) fn tell(name: &[u8], list: &[u64]) {
-    told::tell_bytes(name);
+pub(crate) fn tell(rt: &impl Print, name: &[u8], list: &[u64]) -> io::Result<()> {
+    told::tell_bytes(rt, name)?;
     let mut i = 0;
     while i < list.len() {
-        tell_place(list[i]);
+        tell_place(rt, list[i])?;
         i += 1;
     }
+    Ok(())
 }

@@ -1,5 +1,6 @@
 // Builds files at the edge of the rules, reads, writes or pairs them, and prints for each case its name and the answer.
 #![tactic(auto)]
+
 mod again;
 mod cases;
 mod changes;
@@ -15,7 +16,8 @@ mod writes;
 
 ghost use Rattle.std.specs.Prelude.{◌≡◌, length};
 
-use libc::STDIN_FILENO;
+use std::io;
+use words::input;
 
 // Room for all of standard input, and for a file of more records than a file may have.
 pub(crate) fn space() -> [u8; 327680]
@@ -25,8 +27,8 @@ pub(crate) fn space() -> [u8; 327680]
 }
 
 // The samples and the list of cases stand on standard input, which is held whole.
-fn main() {
+fn main(rt: HostRuntime) -> io::Result<()> {
     let mut text = space();
-    let n = io::read_full(STDIN_FILENO, &mut text);
-    cases::run_all(&text[..n]);
+    let n = input::read_full(&mut rt.stdin(), &mut text);
+    cases::run_all(&rt, &text[..n])
 }

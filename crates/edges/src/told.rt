@@ -1,22 +1,22 @@
 // What is told of a case.
 use answers::told::Answer;
-use libc::STDOUT_FILENO;
 use numbers::base_ten;
 use outcomes::cases;
 use outcomes::cases::Outcome;
+use std::io;
+use std::io::Print;
 
-pub(crate) fn tell_bytes(bytes: &[u8]) {
-    io::write_all(STDOUT_FILENO, bytes);
+pub(crate) fn tell_bytes(rt: &impl Print, bytes: &[u8]) -> io::Result<()> {
+    rt.write_all(bytes)
 }
 
-pub(crate) fn tell_number(n: u64) {
-    tell_bytes(b" ");
-    io::print_decimal(STDOUT_FILENO, n);
+pub(crate) fn tell_number(rt: &impl Print, n: u64) -> io::Result<()> {
+    print!(rt; " {n}")
 }
 
 // The line ends.
-pub(crate) fn end() {
-    tell_bytes(b"\n");
+pub(crate) fn end(rt: &impl Print) -> io::Result<()> {
+    tell_bytes(rt, b"\n")
 }
 
 // A letter of a code; a space shows as a hyphen.
@@ -28,7 +28,7 @@ fn shown(code: u64, d: usize) -> u8 {
 }
 
 // A code as its four characters.
-fn tell_code(code: u64) {
+fn tell_code(rt: &impl Print, code: u64) -> io::Result<()> {
     let word = [
         b' ',
         shown(code, 0),
@@ -36,39 +36,39 @@ fn tell_code(code: u64) {
         shown(code, 2),
         shown(code, 3),
     ];
-    tell_bytes(&word);
+    tell_bytes(rt, &word)
 }
 
 // A name, then side, number, record, item, code.
-pub(crate) fn tell(name: &[u8], answer: Answer) {
-    tell_bytes(name);
-    tell_number(answer.side);
-    tell_number(answer.number);
-    tell_number(answer.rec);
-    tell_number(answer.item);
-    tell_code(answer.code);
+pub(crate) fn tell(rt: &impl Print, name: &[u8], answer: Answer) -> io::Result<()> {
+    tell_bytes(rt, name)?;
+    tell_number(rt, answer.side)?;
+    tell_number(rt, answer.number)?;
+    tell_number(rt, answer.rec)?;
+    tell_number(rt, answer.item)?;
+    tell_code(rt, answer.code)
 }
 
 // The outcome by its name, then what it carries; the maker by its number.
-pub(crate) fn tell_outcome(outcome: Outcome) {
+pub(crate) fn tell_outcome(rt: &impl Print, outcome: Outcome) -> io::Result<()> {
     match outcome {
-        Outcome::None => tell_bytes(b" none"),
+        Outcome::None => tell_bytes(rt, b" none")?,
         Outcome::Whole(taken) => {
-            tell_bytes(b" whole");
-            tell_number(taken);
+            tell_bytes(rt, b" whole")?;
+            tell_number(rt, taken)?;
         }
         Outcome::Part(taken, not_taken, code, _) => {
-            tell_bytes(b" part");
-            tell_number(taken);
-            tell_number(not_taken);
-            tell_code(code);
+            tell_bytes(rt, b" part")?;
+            tell_number(rt, taken)?;
+            tell_number(rt, not_taken)?;
+            tell_code(rt, code)?;
         }
         Outcome::Refused(not_taken, code, _) => {
-            tell_bytes(b" refused");
-            tell_number(not_taken);
-            tell_code(code);
+            tell_bytes(rt, b" refused")?;
+            tell_number(rt, not_taken)?;
+            tell_code(rt, code)?;
         }
     }
     let numbers = cases::numbers(outcome);
-    tell_number(numbers[4]);
+    tell_number(rt, numbers[4])
 }

@@ -1,66 +1,66 @@
 // A case: its name, what the request is, how many bytes of it are laid, and the same of the result.
 use crate::{days, values};
-use libc::STDOUT_FILENO;
+use std::fs::Files;
+use std::io;
+use std::io::Print;
 use text::parts;
 use words::fields;
 
 // Lays a file that the first two words say, and hands out what follows them.
-fn lay<'a>(line: &'a [u8], turn: usize, name: &[u8]) -> &'a [u8] {
+fn lay<'a>(rt: &impl Files, line: &'a [u8], turn: usize, name: &str) -> io::Result<&'a [u8]> {
     let rest = fields::tail(b' ', line);
     days::lay(
+        rt,
         fields::head(b' ', line),
         values::number(fields::head(b' ', rest), turn),
         name,
-    );
-    fields::tail(b' ', rest)
+    )?;
+    Ok(fields::tail(b' ', rest))
 }
 
 // A name, with the turn in place of a * at its end.
-fn tell_name(name: &[u8], turn: usize) {
+fn tell_name(rt: &impl Print, name: &[u8], turn: usize) -> io::Result<()> {
     let before = fields::head(b'*', name);
-    io::write_all(STDOUT_FILENO, before);
+    rt.write_all(before)?;
     if before.len() < name.len() {
-        io::print_decimal(STDOUT_FILENO, turn as u64);
+        print!(rt; "{turn}")?;
     }
-    io::write_all(STDOUT_FILENO, b" ");
+    rt.write_all(b" ")
 }
 
-fn run(line: &[u8], turn: usize) {
-    lay(
-        lay(fields::tail(b' ', line), turn, b"request"),
-        turn,
-        b"result",
-    );
-    tell_name(fields::head(b' ', line), turn);
-    folder::posts::post();
+fn run(rt: &(impl Files + Print), line: &[u8], turn: usize) -> io::Result<()> {
+    let rest = lay(rt, fields::tail(b' ', line), turn, "request")?;
+    lay(rt, rest, turn, "result")?;
+    tell_name(rt, fields::head(b' ', line), turn)?;
+    folder::posts::post(rt)
 }
 
 // Runs what follows the first word, once for each number below the one that this word says.
-fn run_turns(line: &[u8]) {
+fn run_turns(rt: &(impl Files + Print), line: &[u8]) -> io::Result<()> {
     let turns = values::number(parts::rest(fields::head(b' ', line), 1), 0);
     let day = fields::tail(b' ', line);
-    let mut turn = 0;
-    while turn < turns {
-        run(day, turn);
-        turn += 1;
+    for turn in 0..turns {
+        run(rt, day, turn)?;
     }
+    Ok(())
 }
 
 // A line that begins with # says what follows, and an empty line parts.
-fn run_line(line: &[u8]) {
+fn run_line(rt: &(impl Files + Print), line: &[u8]) -> io::Result<()> {
     match parts::byte(line, 0) {
-        0 | b'#' => {}
-        b'*' => run_turns(line),
-        _ => run(line, 0),
+        0 | b'#' => Ok(()),
+        b'*' => run_turns(rt, line),
+        _ => run(rt, line, 0),
     }
 }
 
 // Runs every line of the list.
-pub(crate) fn run_all(list: &[u8]) {
+pub(crate) fn run_all(rt: &(impl Files + Print), list: &[u8]) -> io::Result<()> {
     let mut left = list;
     while 0 < left.len() {
-        run_line(fields::head(b'\n', left));
+        run_line(rt, fields::head(b'\n', left))?;
         let next = fields::past(b'\n', left);
         left = &left[next..];
     }
+    Ok(())
 }

@@ -1,5 +1,10 @@
 // The two files of a day, laid into the folder.
+use std::fs::{Files, OpenFile, Permissions};
+use std::io::{ErrorKind, Write};
+use std::os::unix::fs::PermissionsExt;
+use std::{fs, io};
 use text::parts;
+use words::input;
 
 // No file here is longer.
 const ROOM: usize = 70_000;
@@ -10,30 +15,29 @@ const OPEN: u32 = 0o644;
 const SHUT: u32 = 0;
 
 // Copies the first bytes of a file, with zeros past its end.
-fn copy(from: &[u8], bytes: usize, name: &[u8], mode: u32) {
+fn copy(rt: &impl Files, from: &[u8], bytes: usize, name: &str, mode: u32) -> io::Result<()> {
+    let Ok(from) = str::from_utf8(from) else {
+        return Err(io::Error::from(ErrorKind::InvalidFilename));
+    };
     let mut file = [0u8; ROOM];
-    let source = os::open_read(from);
-    io::read_full(source, &mut file);
-    libc::close(source);
-    let made = os::open_overwrite(name);
+    input::read_full(&mut fs::open(rt, from)?, &mut file);
+    let mut made = fs::create(rt, name)?;
     if bytes <= ROOM {
-        io::write_all(made, parts::part(&file, 0, bytes));
+        made.write_all(parts::part(&file, 0, bytes))?;
     }
-    libc::fchmod(made, mode);
-    libc::close(made);
+    made.set_permissions(Permissions::from_mode(mode))
 }
 
 // Lays what a word says under a name: - nothing, / a folder, ! and a file's name that file with no leave to read it, or a
 // file's name alone.
-pub(crate) fn lay(word: &[u8], bytes: usize, name: &[u8]) {
-    os::unlink(name);
-    os::rmdir(name);
+pub(crate) fn lay(rt: &impl Files, word: &[u8], bytes: usize, name: &str) -> io::Result<()> {
+    // What is not there cannot be removed.
+    let _ = fs::remove_file(rt, name);
+    let _ = fs::remove_dir(rt, name);
     match parts::byte(word, 0) {
-        b'-' => {}
-        b'/' => {
-            os::mkdir(name);
-        }
-        b'!' => copy(parts::rest(word, 1), bytes, name, SHUT),
-        _ => copy(word, bytes, name, OPEN),
+        b'-' => Ok(()),
+        b'/' => fs::create_dir(rt, name),
+        b'!' => copy(rt, parts::rest(word, 1), bytes, name, SHUT),
+        _ => copy(rt, word, bytes, name, OPEN),
     }
 }

@@ -1,10 +1,12 @@
 // What is posted of the folder's day.
-ghost use Rattle.std.specs.Prelude.{◌≡◌, ◌≤◌, length};
+ghost use Rattle.std.specs.Prelude.{◌≡◌, ◌≤◌, length, IfOk};
 ghost use Rattle.posting.specs.Posting.{longest, post_text};
 
 use crate::files;
-use libc::STDOUT_FILENO;
 use posting::posting::LONGEST;
+use std::fs::Files;
+use std::io;
+use std::io::Print;
 use text::parts;
 
 // One byte more than the longest file that is taken: of a longer one so many are lent, and it shows.
@@ -22,20 +24,18 @@ fn printed<'a>(request: &[u8], res: &[u8], output: &'a mut [u8]) -> &'a [u8]
 
 // Reads `request` and `result` and prints what `printed` gives of them. No contract can say what a folder holds, or that
 // something is printed; it answers nothing and is lent nothing.
-pub fn post()
-    ensures { result ≡ tt }
+pub fn post(rt: &(impl Files + Print)) -> io::Result<()>
+    ensures { IfOk result (λ x. x ≡ tt) }
 {
     let mut request = [0u8; ROOM];
     let mut result = [0u8; ROOM];
     let mut output = [0u8; LONGEST];
-    let asked = files::read(b"request", &mut request);
-    let told = files::read(b"result", &mut result);
+    let asked = files::read(rt, "request", &mut request);
+    let told = files::read(rt, "result", &mut result);
     let text = printed(
         parts::part(&request, 0, asked),
         parts::part(&result, 0, told),
         &mut output,
     );
-    if !io::write_all(STDOUT_FILENO, text) {
-        os::fail(b"standard output");
-    }
+    rt.write_all(text)
 }

@@ -1,5 +1,8 @@
 // Posts the day that lies in the folder it is run in.
 #![tactic(auto)]
-fn main() {
-    folder::posts::post();
+
+use std::io;
+
+fn main(rt: HostRuntime) -> io::Result<()> {
+    folder::posts::post(&rt)
 }
