@@ -13,7 +13,7 @@ use lib.ListN.{length, take, replicate}
 use lib.Seq.{take_all, take-append_seam}
 use Rattle.laws.specs.Joined.{all}
 use Rattle.laws.proofs.Bools.{either}
-use Rattle.answers.specs.Answers.{accepted, refused, refuses, ◌then◌}
+use Rattle.answers.specs.Answers.{accepted, refused, refuses}
 use Rattle.answers.proofs.Refusals.{number_of, refuses-zero, refuses-other, then-first, then-second, then-zero, tested}
 use Rattle.kinds.specs.declared.of_files.Named.{Named}
 use Rattle.kinds.specs.declared.of_files.Named.TheVariants.{Is, Unknown}

@@ -13,7 +13,7 @@ use lib.ListN.{length, take, drop, length-append}
 use lib.Seq.{take-nil, take_all, take-append_seam}
 use Rattle.laws.specs.Stored.{stored}
 use Rattle.laws.proofs.Bools.{either}
-use Rattle.answers.specs.Answers.{refused, ◌then◌}
+use Rattle.answers.specs.Answers.{refused}
 use Rattle.answers.specs.Storing.{at_front}
 use Rattle.kinds.specs.declared.of_files.Kind.{Kind}
 use Rattle.kinds.specs.declared.of_files.Named.{Named}

@@ -24,7 +24,7 @@ use Rattle.tables.specs.Tables.{data_front, enrolment_data, debit_data, enrolmen
 use Rattle.tables.proofs.Fronts.{front-row}
 use Rattle.kinds.proofs.Forms.{of-form}
 use Rattle.tables.proofs.Tiling.{rows-tile}
-use Rattle.rows.specs.Laid.{most, laid, laid_out}
+use Rattle.rows.specs.Laid.{most, laid_out}
 use Rattle.rows.proofs.Laying.{laid-length, laid-row, first-laid, rows_fit}
 use Rattle.builder.specs.Bytes.{over_row, over, row_over}
 use Rattle.builder.proofs.Rows.{laid-small}

@@ -1,5 +1,5 @@
 -- The file to be written.
-use Rattle.std.specs.Prelude.{ℕ, ◌+◌, List, ◌++◌}
+use Rattle.std.specs.Prelude.{ℕ, List, ◌++◌}
 use Rattle.laws.specs.Joined.{joined}
 use Rattle.kinds.specs.declared.of_files.Kind.{Kind}
 use Rattle.builder.specs.Records.{Head, header_built, data_built, body_count, built_totals, trailer_built}

@@ -1,5 +1,4 @@
 -- By the pair kind.
-use borrow.Author.Rules.{rules}
 use Rattle.agreement.proofs.amounts.amounts_tell.Goals as goal
 
 pub returns-in-Enrolment : goal.returns-in-Enrolment

@@ -4,7 +4,6 @@ use Rattle.agreement.specs.Amounts.{base_of}
 use borrow.Author.Tests.{eq-eqb, ne_eqb}
 use mathlib.Core.Path.{◌≡◌}
 use native.Mathlib.Omega.{arith}
-use borrow.Author.Rules.{rules}
 use Rattle.agreement.proofs.amounts.base.Goals as goal
 
 pub returns-then-debit_type-eq48 : goal.returns-then-debit_type-eq48

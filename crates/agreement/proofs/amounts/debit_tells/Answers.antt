@@ -1,6 +1,5 @@
 -- "P" on type "1", then the amounts.
 use Rattle.agreement.specs.Amounts.{debit_tells}
-use borrow.Author.Rules.{rules}
 use Rattle.agreement.proofs.amounts.debit_tells.Goals as goal
 
 pub returns-then-part_of_one : goal.returns-then-part_of_one

@@ -1,7 +1,6 @@
 -- By the mark, then by the amounts.
 use Rattle.agreement.specs.Amounts.{possible}
 use borrow.Author.Tests.{eq-eqb, ne_eqb, lt-ltb, le-ltb}
-use borrow.Author.Rules.{rules}
 use Rattle.agreement.proofs.amounts.possible.Goals as goal
 
 pub returns-then-mark-eq78 : goal.returns-then-mark-eq78

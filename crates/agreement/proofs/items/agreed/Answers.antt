@@ -1,5 +1,4 @@
 -- By the request's kind.
-use borrow.Author.Rules.{rules}
 use Rattle.agreement.proofs.items.agreed.Goals as goal
 
 pub returns : goal.returns

@@ -1,6 +1,5 @@
 -- The two parts.
 use Rattle.agreement.specs.Items.{agrees}
-use borrow.Author.Rules.{rules}
 use Rattle.agreement.proofs.items.agrees.Goals as goal
 
 pub returns : goal.returns

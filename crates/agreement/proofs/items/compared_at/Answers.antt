@@ -2,7 +2,6 @@
 use Rattle.agreement.proofs.Places.{headers-agreed, agreed-most, header-compared}
 use mathlib.Core.Path.{◌∙◌}
 use native.Mathlib.Omega.{arith}
-use borrow.Author.Rules.{rules}
 use Rattle.agreement.proofs.items.compared_at.Goals as goal
 
 pub header_item-requires : goal.header_item-requires

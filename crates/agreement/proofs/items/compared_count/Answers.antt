@@ -1,7 +1,6 @@
 -- By what is compared.
 use Rattle.agreement.proofs.Places.{headers-agreed}
 use mathlib.Core.Path.{sym, ◌∙◌}
-use borrow.Author.Rules.{rules}
 use Rattle.agreement.proofs.items.compared_count.Goals as goal
 
 pub returns-in-Headers : goal.returns-in-Headers

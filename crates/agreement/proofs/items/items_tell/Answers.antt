@@ -1,12 +1,10 @@
 -- The loop looks for the first item that differs.
-use Prim.Native.Nat.{◌≤◌, ◌-◌}
 use Rattle.laws.proofs.Leasts.{least_start}
-use Rattle.answers.proofs.Refusals.{So-far, told-end}
+use Rattle.answers.proofs.Refusals.{told-end}
 use Rattle.agreement.proofs.Places.{compared-inside}
 use Rattle.agreement.proofs.Differ.{items_more, items-stop}
-use Rattle.agreement.specs.Items.{compared_of, item_tells, items_tell}
-use lib.ListN.{length}
-use mathlib.Core.Path.{◌≡◌, sym}
+use Rattle.agreement.specs.Items.{items_tell}
+use mathlib.Core.Path.{sym}
 use native.Mathlib.Nat.{le_antisymm}
 use native.Mathlib.Omega.{arith}
 use borrow.Author.Rules.{rules}

@@ -1,15 +1,9 @@
 -- The loop looks for the first item that differs.
 use Prim.Native.Nat.{◌≤◌, ◌-◌}
-use Rattle.laws.proofs.Leasts.{least_start}
-use Rattle.answers.proofs.Refusals.{So-far, told-end}
-use Rattle.agreement.proofs.Places.{compared-inside}
-use Rattle.agreement.proofs.Differ.{items_more, items-stop}
-use Rattle.agreement.specs.Items.{compared_of, item_tells, items_tell}
+use Rattle.answers.proofs.Refusals.{So-far}
+use Rattle.agreement.specs.Items.{compared_of, item_tells}
 use lib.ListN.{length}
-use mathlib.Core.Path.{◌≡◌, sym}
-use native.Mathlib.Nat.{le_antisymm}
-use native.Mathlib.Omega.{arith}
-use borrow.Author.Rules.{rules}
+use mathlib.Core.Path.{◌≡◌}
 use Rattle.agreement.proofs.items.items_tell.Given as goal
 
 abbrev pub invariant-loop-i : goal.invariant-loop-i

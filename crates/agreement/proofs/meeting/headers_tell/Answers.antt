@@ -3,7 +3,6 @@ use Rattle.agreement.proofs.Places.{same_size}
 use Rattle.agreement.specs.Meeting.{headers_tell}
 use mathlib.Core.Path.{◌∙◌}
 use native.Mathlib.Omega.{arith}
-use borrow.Author.Rules.{rules}
 use Rattle.agreement.proofs.meeting.headers_tell.Goals as goal
 
 pub record_of-requires : goal.record_of-requires

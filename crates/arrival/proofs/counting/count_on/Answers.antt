@@ -1,11 +1,9 @@
 -- Below the turn the sum; from there on what it has over whole cycles.
 use Prim.Native.Nat.{◌+◌, ◌-◌, ◌≤◌}
-use mathlib.Core.Logic.{⊎_elim}
 use mathlib.Core.Path.{sym, ◌∙◌, ap}
 use native.Mathlib.Nat.{add-mod}
 use native.Mathlib.Omega.{arith}
-use borrow.Author.Rules.{rules}
-use borrow.Author.Tests.{ltb-true, ltb-false}
+use borrow.Author.Tests.{ltb-true}
 use Rattle.arrival.specs.Counting.{turn, cycle}
 use Rattle.arrival.proofs.Counted.{counted-low, counted-high}
 use Rattle.arrival.proofs.counting.count_on.Goals as goal

@@ -1,5 +1,4 @@
 -- After the end nothing; before it the state is marked.
-use borrow.Author.Rules.{rules}
 use borrow.Author.Tests.{eq-eqb, ne_eqb}
 use Rattle.arrival.specs.Arriving.{has_ended}
 use Rattle.arrival.proofs.Steps.{ended-end, open-end}

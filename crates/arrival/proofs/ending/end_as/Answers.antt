@@ -1,9 +1,7 @@
 -- The length, then the room, then the reader.
-use mathlib.Core.Logic.{⊎_elim}
 use mathlib.Core.Path.{sym, ◌∙◌}
 use native.Mathlib.Omega.{arith}
-use borrow.Author.Rules.{rules}
-use borrow.Author.Tests.{leb-true, leb-false}
+use borrow.Author.Tests.{leb-true}
 use lib.ListN.{length}
 use Rattle.laws.specs.Part.{part}
 use Rattle.answers.proofs.Refusals.{number_of, then-first, then-second}

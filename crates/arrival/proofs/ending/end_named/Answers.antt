@@ -1,5 +1,4 @@
 -- The kind first.
-use borrow.Author.Rules.{rules}
 use Rattle.arrival.proofs.ending.end_named.Goals as goal
 
 pub returns-in-Is : goal.returns-in-Is

@@ -3,7 +3,6 @@ use Rattle.builder.proofs.Rows.{body-fits}
 use Rattle.builder.specs.Records.{data_byte}
 use borrow.Author.Tests.{lt-ltb, le-ltb}
 use native.Mathlib.Omega.{arith}
-use borrow.Author.Rules.{rules}
 use Rattle.builder.proofs.building.data_byte.Goals as goal
 
 pub returns-then-j-lt-FRONT : goal.returns-then-j-lt-FRONT

@@ -1,17 +1,10 @@
 -- One byte after the other.
 use Prim.Native.Nat.{◌≤◌, ◌-◌, ◌*◌}
 use Rattle.kinds.specs.Kinds.{fixed_of}
-use Rattle.laws.proofs.Tabs.{tab-start, tab-more, tab-end}
 use Rattle.laws.specs.Tabulate.{tabulate}
-use Rattle.builder.proofs.Rows.{body-fits}
-use Rattle.builder.proofs.Sizes.{size-most}
-use Rattle.builder.specs.Records.{data_byte, data_built}
-use borrow.Author.Rules.{rules}
-use lib.ListN.{length, take, length-set}
-use mathlib.Core.List.{[]}
-use mathlib.Core.Path.{◌≡◌, refl}
-use native.Mathlib.Nat.{le_antisymm}
-use native.Mathlib.Omega.{arith}
+use Rattle.builder.specs.Records.{data_byte}
+use lib.ListN.{length, take}
+use mathlib.Core.Path.{◌≡◌}
 use Rattle.builder.proofs.building.fill_data.Given as goal
 
 abbrev pub invariant-loop-j : goal.invariant-loop-j

@@ -1,17 +1,15 @@
 -- One byte after the other, by the row that has begun and not ended.
-use Prim.Native.Nat.{◌≤◌, ◌<◌, ◌+◌, ◌-◌}
+use Prim.Native.Nat.{◌<◌}
 use Rattle.kinds.specs.Kinds.{fixed_of}
 use Rattle.kinds.specs.declared.of_files.Role.TheVariants.{Trailer}
 use Rattle.laws.proofs.Tabs.{tab-start, tab-more, tab-end}
-use Rattle.laws.specs.Tabulate.{tabulate}
-use Rattle.builder.proofs.Over.{Ended, ended-none, ended-place, ended-row, walk_inside, walk-row}
+use Rattle.builder.proofs.Over.{ended-none, ended-place, ended-row, walk_inside, walk-row}
 use Rattle.builder.proofs.Rows.{laid-small}
 use Rattle.builder.specs.Records.{trailer_byte, trailer_built}
-use Rattle.rows.specs.Laid.{most}
 use borrow.Author.Rules.{rules}
-use lib.ListN.{length, take, length-set}
+use lib.ListN.{length-set}
 use mathlib.Core.List.{[]}
-use mathlib.Core.Path.{◌≡◌, refl}
+use mathlib.Core.Path.{refl}
 use native.Mathlib.Nat.{le_antisymm}
 use native.Mathlib.Omega.{arith}
 use Rattle.builder.proofs.building.fill_trailer.Goals as goal

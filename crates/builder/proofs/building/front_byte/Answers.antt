@@ -2,7 +2,6 @@
 use Rattle.builder.proofs.Over.{front-first, front-second, front-third}
 use Rattle.builder.specs.Records.{front_fill}
 use Rattle.tables.specs.Tables.{data_front}
-use borrow.Author.Rules.{rules}
 use Rattle.builder.proofs.building.front_byte.Goals as goal
 
 pub returns-then-j-lt1 : goal.returns-then-j-lt1

@@ -1,6 +1,5 @@
 -- By the item.
 use Rattle.builder.specs.Records.{given_item}
-use borrow.Author.Rules.{rules}
 use borrow.Author.Tests.{eq-eqb, ne_eqb}
 use lib.Seq.{get_or-drop}
 use Rattle.builder.proofs.building.given_byte.Goals as goal

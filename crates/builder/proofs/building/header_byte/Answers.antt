@@ -1,6 +1,5 @@
 -- The row over the place says what stands there.
 use Rattle.builder.specs.Records.{header_fill, header_byte}
-use borrow.Author.Rules.{rules}
 use native.Mathlib.Omega.{arith}
 use Rattle.builder.proofs.building.header_byte.Goals as goal
 

@@ -1,8 +1,7 @@
 -- The loop looks for the item's total.
-use Prim.Native.Nat.{◌≤◌, ◌-◌}
 use Rattle.laws.proofs.Leasts.{least_start, least_more, least-stop}
 use Rattle.laws.specs.Least.{least}
-use Rattle.tables.specs.Totals.{totals_of, most_totals}
+use Rattle.tables.specs.Totals.{totals_of}
 use Rattle.tables.proofs.Counts.{totals-few}
 use Rattle.builder.specs.Records.{total_is, total_for}
 use borrow.Author.Rules.{rules}

@@ -1,16 +1,10 @@
 -- The loop looks for the item's total.
 use Prim.Native.Nat.{◌≤◌, ◌-◌}
-use Rattle.laws.proofs.Leasts.{least_start, least_more, least-stop}
 use Rattle.laws.specs.Least.{least}
 use Rattle.tables.specs.Totals.{totals_of, most_totals}
-use Rattle.tables.proofs.Counts.{totals-few}
-use Rattle.builder.specs.Records.{total_is, total_for}
-use borrow.Author.Rules.{rules}
-use borrow.Author.Tests.{eq-eqb, ne_eqb}
-use lib.ListN.{length, get_or, get_or-eq_default}
-use mathlib.Core.Path.{◌≡◌, sym, ap}
-use native.Mathlib.Nat.{le_antisymm}
-use native.Mathlib.Omega.{arith}
+use Rattle.builder.specs.Records.{total_is}
+use lib.ListN.{length}
+use mathlib.Core.Path.{◌≡◌}
 use Rattle.builder.proofs.building.total_for.Given as goal
 
 abbrev pub invariant-loop-t : goal.invariant-loop-t

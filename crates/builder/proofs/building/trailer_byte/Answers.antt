@@ -2,7 +2,6 @@
 use Rattle.kinds.specs.declared.of_files.Role.TheVariants.{Trailer}
 use Rattle.builder.proofs.Over.{over-small}
 use Rattle.builder.specs.Records.{trailer_fill, trailer_byte}
-use borrow.Author.Rules.{rules}
 use mathlib.Core.Path.{sym, ◌∙◌}
 use native.Mathlib.Omega.{arith}
 use Rattle.builder.proofs.building.trailer_byte.Goals as goal

@@ -1,6 +1,5 @@
 -- Each class by its byte.
 use borrow.Author.Tests.{eq-eqb, ne_eqb}
-use borrow.Author.Rules.{rules}
 use Rattle.builder.proofs.bytes.fill.Goals as goal
 
 pub returns-then-low-high : goal.returns-then-low-high

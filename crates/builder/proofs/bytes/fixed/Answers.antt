@@ -1,7 +1,6 @@
 -- A class of one byte by that byte; no other is said to be one.
 use mathlib.Core.Path.{refl}
 use Rattle.laws.proofs.Bools.{clash}
-use borrow.Author.Rules.{rules}
 use Rattle.builder.proofs.bytes.fixed.Goals as goal
 
 pub returns-in-Each : goal.returns-in-Each

@@ -1,14 +1,11 @@
 -- Header, data, trailer, each stored behind the other.
-use Prim.Native.Nat.{◌+◌, ◌*◌, ◌≤◌}
 use Rattle.kinds.specs.Kinds.{fixed_of}
 use Rattle.builder.proofs.Built.{count-whole, file-put}
 use Rattle.builder.proofs.Sizes.{one_more, frame-fits}
 use Rattle.builder.specs.Records.{head_of}
-use lib.ListN.{length}
 use lib.Seq.{length-take-le}
 use mathlib.Core.Path.{sym}
 use native.Mathlib.Omega.{arith}
-use borrow.Author.Rules.{rules}
 use Rattle.builder.proofs.files.put.Goals as goal
 
 pub overflow_mul-whole : goal.overflow_mul-whole

@@ -1,12 +1,11 @@
 -- One record after the other.
-use Prim.Native.Nat.{◌≤◌, ◌-◌, ◌+◌}
+use Prim.Native.Nat.{◌+◌}
 use Rattle.laws.proofs.Joins.{size_below}
 use Rattle.kinds.specs.Kinds.{fixed_of}
-use Rattle.builder.proofs.Built.{filled, filled-start, filled_next}
+use Rattle.builder.proofs.Built.{filled-start, filled_next}
 use Rattle.builder.proofs.Sizes.{one_more, frame-fits}
 use borrow.Author.Rules.{rules}
-use lib.ListN.{length}
-use mathlib.Core.Path.{◌≡◌, refl, ◌∙◌}
+use mathlib.Core.Path.{refl, ◌∙◌}
 use native.Mathlib.Nat.{le_antisymm}
 use native.Mathlib.Omega.{arith}
 use Rattle.builder.proofs.files.put_data.Goals as goal

@@ -1,14 +1,8 @@
 -- One record after the other.
-use Prim.Native.Nat.{◌≤◌, ◌-◌, ◌+◌}
-use Rattle.laws.proofs.Joins.{size_below}
-use Rattle.kinds.specs.Kinds.{fixed_of}
-use Rattle.builder.proofs.Built.{filled, filled-start, filled_next}
-use Rattle.builder.proofs.Sizes.{one_more, frame-fits}
-use borrow.Author.Rules.{rules}
+use Prim.Native.Nat.{◌≤◌, ◌-◌}
+use Rattle.builder.proofs.Built.{filled}
 use lib.ListN.{length}
-use mathlib.Core.Path.{◌≡◌, refl, ◌∙◌}
-use native.Mathlib.Nat.{le_antisymm}
-use native.Mathlib.Omega.{arith}
+use mathlib.Core.Path.{◌≡◌}
 use Rattle.builder.proofs.files.put_data.Given as goal
 
 abbrev pub invariant-loop-i : goal.invariant-loop-i

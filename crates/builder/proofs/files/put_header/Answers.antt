@@ -2,7 +2,6 @@
 use Rattle.builder.proofs.Sizes.{wide}
 use mathlib.Core.Path.{◌∙◌}
 use native.Mathlib.Omega.{arith}
-use borrow.Author.Rules.{rules}
 use Rattle.builder.proofs.files.put_header.Goals as goal
 
 pub header_150-rec-requires : goal.header_150-rec-requires

@@ -3,7 +3,6 @@ use Rattle.builder.proofs.Sizes.{wide}
 use lib.Seq.{length-take-le}
 use mathlib.Core.Path.{sym, ◌∙◌}
 use native.Mathlib.Omega.{arith}
-use borrow.Author.Rules.{rules}
 use Rattle.builder.proofs.files.put_trailer.Goals as goal
 
 pub slice_bounds-trailer_120-end-then-size-eq-ENROLMENT_SIZE : goal.slice_bounds-trailer_120-end-then-size-eq-ENROLMENT_SIZE

@@ -1,6 +1,5 @@
 -- By whether the trailer has such a total.
 use Rattle.builder.specs.Records.{file_total}
-use borrow.Author.Rules.{rules}
 use borrow.Author.Tests.{lt-ltb, le-ltb}
 use Rattle.builder.proofs.files.sum_at.Goals as goal
 

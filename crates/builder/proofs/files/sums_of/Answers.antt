@@ -1,11 +1,9 @@
 -- One total after the other.
-use Prim.Native.Nat.{◌≤◌, ◌-◌}
 use Rattle.tables.specs.Totals.{most_totals}
 use Rattle.laws.proofs.Tabs.{tab-start, tab-more, tab-end}
-use Rattle.laws.specs.Tabulate.{tabulate}
 use Rattle.builder.specs.Records.{file_total}
 use borrow.Author.Rules.{rules}
-use lib.ListN.{length, take, length-set}
+use lib.ListN.{length-set}
 use mathlib.Core.List.{[]}
 use mathlib.Core.Path.{◌≡◌, refl}
 use native.Mathlib.Nat.{le_antisymm}

@@ -1,11 +1,10 @@
 -- One space after the other.
-use Prim.Native.Nat.{◌≤◌, ◌-◌}
 use Rattle.evidence_builder.specs.Files.{blanks}
 use Rattle.evidence_builder.proofs.Written.{blanks-length}
 use Rattle.laws.proofs.Stores.{paste_more, paste_all}
-use lib.ListN.{length, length-set, get_or-replicate}
-use lib.Seq.{paste, paste-zero}
-use mathlib.Core.Path.{◌≡◌, refl, sym}
+use lib.ListN.{length-set, get_or-replicate}
+use lib.Seq.{paste-zero}
+use mathlib.Core.Path.{refl, sym}
 use native.Mathlib.Omega.{arith}
 use borrow.Author.Rules.{rules}
 use Rattle.evidence_builder.proofs.files.blanks.Goals as goal

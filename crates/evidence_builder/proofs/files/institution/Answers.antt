@@ -3,7 +3,6 @@ use Prim.Native.Nat.{◌+◌}
 use Rattle.evidence_builder.specs.Files.{blanks, institution_of}
 use Rattle.laws.proofs.Stores.{stored-then}
 use native.Mathlib.Omega.{arith}
-use borrow.Author.Rules.{rules}
 use Rattle.evidence_builder.proofs.files.institution.Goals as goal
 
 pub returns : goal.returns

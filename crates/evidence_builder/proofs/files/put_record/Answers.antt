@@ -9,7 +9,6 @@ use Rattle.evidence_builder.specs.Files.{blanks, record_front}
 use Rattle.evidence_builder.proofs.Written.{front_length}
 use Rattle.laws.proofs.Stores.{stored-then}
 use native.Mathlib.Omega.{arith}
-use borrow.Author.Rules.{rules}
 use Rattle.evidence_builder.proofs.files.put_record.Goals as goal
 
 pub put_front-requires : goal.put_front-requires

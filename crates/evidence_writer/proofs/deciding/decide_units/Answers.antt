@@ -9,7 +9,6 @@ use Rattle.evidence_writer.specs.Writing.{records_told}
 use Rattle.evidence_writer.proofs.Decides.{records-good}
 use Rattle.evidence_writer.proofs.Told.{all-good}
 use Rattle.evidence_writer.proofs.Listed.{place_at}
-use borrow.Author.Rules.{rules}
 use Rattle.evidence_writer.proofs.deciding.decide_units.Goals as goal
 
 pub returns-then-judged-ne0 : goal.returns-then-judged-ne0

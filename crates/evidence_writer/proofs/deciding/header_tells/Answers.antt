@@ -3,7 +3,6 @@ use native.Mathlib.Omega.{arith}
 use Rattle.evidence_rows.specs.Tables.{header_rows}
 use Rattle.evidence.proofs.Rows.{header-fits, table-judges, table-tells}
 use Rattle.evidence_writer.specs.Writing.{header_told}
-use borrow.Author.Rules.{rules}
 use Rattle.evidence_writer.proofs.deciding.header_tells.Goals as goal
 
 pub judge_rows-requires : goal.judge_rows-requires

@@ -7,7 +7,6 @@ use native.Mathlib.Omega.{arith}
 use borrow.Author.Tests.{lt-ltb, le-ltb}
 use Rattle.evidence.specs.Reading.{repeat_told}
 use Rattle.evidence_writer.proofs.Listed.{keys-inside, keys-by}
-use borrow.Author.Rules.{rules}
 use Rattle.evidence_writer.proofs.deciding.keys_tell.Goals as goal
 
 pub chain-requires : goal.chain-requires

@@ -1,7 +1,6 @@
 -- The two tests, in their order.
 use borrow.Author.Tests.{eq-eqb, ne_eqb}
 use Rattle.evidence_writer.specs.Writing.{parts_told}
-use borrow.Author.Rules.{rules}
 use Rattle.evidence_writer.proofs.deciding.parts_tell.Goals as goal
 
 pub returns-then-date-ne8 : goal.returns-then-date-ne8

@@ -8,10 +8,6 @@ use Rattle.answers.proofs.Refusals.{then-first, then-second}
 use Rattle.evidence_units.proofs.Framed.{frames-same}
 use Rattle.evidence_builder.specs.Units.{place_of, said_by}
 use Rattle.evidence_writer.specs.Writing.{signed_told}
-use Rattle.evidence_writer.proofs.deciding.rest_tells.Reads as reads
-use Rattle.evidence_writer.proofs.deciding.rest_tells.Lts as lts
-use Rattle.evidence_units.proofs.framing.frames_tell.Reads as frames-tell-reads
-use Rattle.evidence_writer.proofs.deciding.keys_tell.Reads as keys-tell-reads
 use Rattle.evidence_writer.proofs.deciding.rest_tells.Goals as goal
 
 -- src/deciding.rt:77:9

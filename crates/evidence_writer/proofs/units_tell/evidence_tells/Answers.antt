@@ -5,7 +5,6 @@ use native.Mathlib.Omega.{arith}
 use borrow.Author.Tests.{le-leb, lt-leb}
 use Rattle.evidence.proofs.Walks.{blocks-tight}
 use Rattle.evidence_writer.specs.Writing.{evidence_told}
-use borrow.Author.Rules.{rules}
 use Rattle.evidence_writer.proofs.units_tell.evidence_tells.Goals as goal
 
 pub returns-then-x-p : goal.returns-then-x-p

@@ -9,7 +9,6 @@ use Rattle.evidence_rows.specs.Tables.{data_rows}
 use Rattle.evidence.proofs.Rows.{data-fits, table-judges, table-tells}
 use Rattle.evidence_writer.specs.Writing.{items_told}
 use Rattle.evidence_writer.proofs.Stored.{items-stored, items-fill}
-use borrow.Author.Rules.{rules}
 use Rattle.evidence_writer.proofs.units_tell.items_tell.Goals as goal
 
 pub judge_rows-requires : goal.judge_rows-requires

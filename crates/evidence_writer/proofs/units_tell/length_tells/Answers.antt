@@ -1,7 +1,6 @@
 -- The kind and the length as the unit has them.
 use Rattle.evidence_units.specs.Units.{sort_at}
 use Rattle.evidence_writer.specs.Writing.{length_told}
-use borrow.Author.Rules.{rules}
 use Rattle.evidence_writer.proofs.units_tell.length_tells.Goals as goal
 
 pub returns-then-length_good : goal.returns-then-length_good

@@ -6,7 +6,6 @@ use native.Mathlib.Omega.{arith}
 use borrow.Author.Tests.{le-leb, lt-leb}
 use Rattle.answers.proofs.Refusals.{then-first, then-second}
 use Rattle.evidence_writer.specs.Writing.{unit_told}
-use borrow.Author.Rules.{rules}
 use Rattle.evidence_writer.proofs.units_tell.unit_tells.Goals as goal
 
 pub returns-then-x-p-lt-ITEMS : goal.returns-then-x-p-lt-ITEMS

@@ -1,18 +1,12 @@
 -- The loop goes from unit to unit until nothing is left, the limit or the first that is refused.
-use Prim.Native.Nat.{◌+◌, ◌-◌, ◌≤◌}
-use lib.ListN.{length, drop, length-set}
-use mathlib.Core.List.{◌++◌}
+use lib.ListN.{length-set}
 use mathlib.Core.Path.{◌≡◌, refl, sym, ◌∙◌}
 use native.Mathlib.Omega.{arith}
-use borrow.Author.Rules.{rules}
-use Rattle.laws.specs.Tabulate.{tabulate}
 use Rattle.laws.proofs.Leasts.{least_start}
 use Rattle.laws.proofs.Tabs.{fill_start, fill_more}
-use Rattle.answers.proofs.Refusals.{So-far, told_more, number_of}
-use Rattle.kinds.specs.Kinds.{limit}
-use Rattle.evidence.specs.Blocks.{most_blocks}
-use Rattle.evidence_builder.specs.Units.{place_of, said_by, blocks_to}
-use Rattle.evidence_builder.proofs.Walked.{place-first, place-more, UnderWay}
+use Rattle.answers.proofs.Refusals.{told_more, number_of}
+use Rattle.evidence_builder.specs.Units.{place_of, said_by}
+use Rattle.evidence_builder.proofs.Walked.{place-first, place-more}
 use Rattle.evidence_writer.specs.Writing.{record_told}
 use Rattle.evidence_writer.proofs.Units.{blocks-first, blocks_more, place-blocks, way-more, way-met, way_end}
 use Rattle.evidence_writer.proofs.Told.{Fits, record-limit, unit-is, unit-fits, records-stop, records-end}

@@ -1,21 +1,15 @@
 -- The loop goes from unit to unit until nothing is left, the limit or the first that is refused.
-use Prim.Native.Nat.{◌+◌, ◌-◌, ◌≤◌}
-use lib.ListN.{length, drop, length-set}
+use Prim.Native.Nat.{◌-◌, ◌≤◌}
+use lib.ListN.{length, drop}
 use mathlib.Core.List.{◌++◌}
-use mathlib.Core.Path.{◌≡◌, refl, sym, ◌∙◌}
-use native.Mathlib.Omega.{arith}
-use borrow.Author.Rules.{rules}
+use mathlib.Core.Path.{◌≡◌}
 use Rattle.laws.specs.Tabulate.{tabulate}
-use Rattle.laws.proofs.Leasts.{least_start}
-use Rattle.laws.proofs.Tabs.{fill_start, fill_more}
-use Rattle.answers.proofs.Refusals.{So-far, told_more, number_of}
+use Rattle.answers.proofs.Refusals.{So-far}
 use Rattle.kinds.specs.Kinds.{limit}
 use Rattle.evidence.specs.Blocks.{most_blocks}
-use Rattle.evidence_builder.specs.Units.{place_of, said_by, blocks_to}
-use Rattle.evidence_builder.proofs.Walked.{place-first, place-more, UnderWay}
+use Rattle.evidence_builder.specs.Units.{place_of, blocks_to}
+use Rattle.evidence_builder.proofs.Walked.{UnderWay}
 use Rattle.evidence_writer.specs.Writing.{record_told}
-use Rattle.evidence_writer.proofs.Units.{blocks-first, blocks_more, place-blocks, way-more, way-met, way_end}
-use Rattle.evidence_writer.proofs.Told.{Fits, record-limit, unit-is, unit-fits, records-stop, records-end}
 use Rattle.evidence_writer.proofs.units_tell.units_tell.Given as goal
 
 abbrev pub invariant-loop-p : goal.invariant-loop-p

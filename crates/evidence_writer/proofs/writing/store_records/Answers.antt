@@ -1,5 +1,5 @@
 -- One record behind the other.
-use Prim.Native.Nat.{◌+◌, ◌-◌, ◌*◌, ◌≤◌}
+use Prim.Native.Nat.{◌+◌, ◌*◌, ◌≤◌}
 use lib.ListN.{length}
 use mathlib.Core.Path.{◌≡◌, refl, sym}
 use native.Mathlib.Omega.{arith}
@@ -10,7 +10,7 @@ use Rattle.laws.proofs.Joins.{joined-start, joined-more}
 use Rattle.evidence.specs.Blocks.{block, blocks_for}
 use Rattle.evidence.proofs.Walks.{blocks-tight}
 use Rattle.evidence_units.specs.Units.{said_at}
-use Rattle.evidence_builder.specs.Units.{place_of, said_by, unit_of, blocks_to}
+use Rattle.evidence_builder.specs.Units.{said_by, unit_of}
 use Rattle.evidence_builder.specs.Files.{record_of}
 use Rattle.evidence_builder.proofs.Walked.{place-first, place-more}
 use Rattle.laws.proofs.Stores.{stored-then, stored-none}

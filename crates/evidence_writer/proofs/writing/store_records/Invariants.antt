@@ -1,21 +1,12 @@
 -- One record behind the other.
 use Prim.Native.Nat.{◌+◌, ◌-◌, ◌*◌, ◌≤◌}
 use lib.ListN.{length}
-use mathlib.Core.Path.{◌≡◌, refl, sym}
-use native.Mathlib.Omega.{arith}
-use borrow.Author.Rules.{rules}
+use mathlib.Core.Path.{◌≡◌}
 use Rattle.laws.specs.Joined.{joined}
 use Rattle.laws.specs.Stored.{stored}
-use Rattle.laws.proofs.Joins.{joined-start, joined-more}
-use Rattle.evidence.specs.Blocks.{block, blocks_for}
-use Rattle.evidence.proofs.Walks.{blocks-tight}
-use Rattle.evidence_units.specs.Units.{said_at}
-use Rattle.evidence_builder.specs.Units.{place_of, said_by, unit_of, blocks_to}
+use Rattle.evidence.specs.Blocks.{block}
+use Rattle.evidence_builder.specs.Units.{place_of, blocks_to}
 use Rattle.evidence_builder.specs.Files.{record_of}
-use Rattle.evidence_builder.proofs.Walked.{place-first, place-more}
-use Rattle.laws.proofs.Stores.{stored-then, stored-none}
-use Rattle.evidence_writer.proofs.Built.{records-long}
-use Rattle.evidence_writer.proofs.Units.{blocks-first, blocks_more, blocks-up}
 use Rattle.evidence_writer.proofs.writing.store_records.Given as goal
 
 abbrev pub invariant-loop-i : goal.invariant-loop-i

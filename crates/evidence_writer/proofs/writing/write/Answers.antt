@@ -14,7 +14,6 @@ use Rattle.evidence_writer.specs.Given.{Given}
 use Rattle.evidence_writer.proofs.Decides.{decided-given, given-decided}
 use Rattle.evidence_writer.proofs.Built.{given-whole, file-long}
 use Rattle.evidence_writer.proofs.Stored.{file-stored, told-decided, told-8, told-good, write-refused, write-good}
-use borrow.Author.Rules.{rules}
 use Rattle.evidence_writer.proofs.writing.write.Goals as goal
 
 pub returns-then-answer-ne0 : goal.returns-then-answer-ne0

@@ -1,6 +1,5 @@
 -- What the request adds.
 use Rattle.matching.specs.Amounts.{asked_at}
-use borrow.Author.Rules.{rules}
 use Rattle.matching.proofs.amounts.asked_at.Goals as goal
 
 pub worth_at-requires : goal.worth_at-requires

@@ -2,7 +2,6 @@
 use Rattle.matching.specs.Amounts.{not_taken_by}
 use borrow.Author.Tests.{lt-ltb, le-ltb}
 use native.Mathlib.Omega.{arith}
-use borrow.Author.Rules.{rules}
 use Rattle.matching.proofs.amounts.not_taken_by.Goals as goal
 
 pub returns-then-j-data_count : goal.returns-then-j-data_count

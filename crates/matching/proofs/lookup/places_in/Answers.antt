@@ -4,7 +4,6 @@ use Rattle.keys.proofs.Chained.{none-zeros}
 use Rattle.keys.specs.Chains.{slots}
 use Rattle.kinds.specs.Kinds.{limit}
 use native.Mathlib.Omega.{arith}
-use borrow.Author.Rules.{rules}
 use Rattle.matching.proofs.lookup.places_in.Goals as goal
 
 pub chain-requires : goal.chain-requires

@@ -1,6 +1,5 @@
 -- The record in its role, against the header.
 use Rattle.reader.specs.Judged.{judged_at}
-use borrow.Author.Rules.{rules}
 use Rattle.reader.proofs.judged.judged_at.Goals as goal
 
 pub judge-requires : goal.judge-requires

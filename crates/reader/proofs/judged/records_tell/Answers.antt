@@ -1,8 +1,7 @@
 -- The loop looks for the first record that breaks a row.
-use Prim.Native.Nat.{◌≤◌, ◌-◌}
 use Rattle.kinds.specs.declared.of_files.Role.TheVariants.{Data}
 use Rattle.laws.proofs.Leasts.{least_start}
-use Rattle.answers.proofs.Refusals.{So-far, told_more, told-stop, told-end}
+use Rattle.answers.proofs.Refusals.{told_more, told-stop, told-end}
 use Rattle.layout.proofs.Judged.{laid-judged}
 use Rattle.records.proofs.Places.{count_small}
 use Rattle.records.specs.Records.{count_of}

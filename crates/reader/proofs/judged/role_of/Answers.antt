@@ -1,6 +1,5 @@
 -- The two tests, in their order.
 use Rattle.reader.proofs.Roles.{role-header, role-data, role-trailer}
-use borrow.Author.Rules.{rules}
 use mathlib.Core.Path.{sym}
 use native.Mathlib.Omega.{arith}
 use Rattle.reader.proofs.judged.role_of.Goals as goal

@@ -1,7 +1,6 @@
 -- The two tests, in their order.
 use Rattle.records.proofs.Places.{size-pos}
 use Rattle.reader.specs.Reading.{is_whole}
-use borrow.Author.Rules.{rules}
 use borrow.Author.Tests.{eq-eqb, ne_eqb}
 use Rattle.reader.proofs.reading.is_whole.Goals as goal
 

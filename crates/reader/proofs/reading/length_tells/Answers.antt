@@ -1,7 +1,6 @@
 -- Whole first, then not too many.
 use Rattle.records.proofs.Places.{size-pos}
 use Rattle.reader.specs.Reading.{length_tells}
-use borrow.Author.Rules.{rules}
 use borrow.Author.Tests.{le-leb, lt-leb}
 use Rattle.reader.proofs.reading.length_tells.Goals as goal
 

@@ -1,6 +1,5 @@
 -- The kind first.
 use Rattle.reader.specs.Reading.{read_of}
-use borrow.Author.Rules.{rules}
 use Rattle.reader.proofs.reading.read.Goals as goal
 
 pub returns-in-Is : goal.returns-in-Is

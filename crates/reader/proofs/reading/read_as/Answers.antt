@@ -5,7 +5,6 @@ use Rattle.reader.specs.Keys.{keys_tell}
 use Rattle.reader.specs.Reading.{length_tells, read_as}
 use Rattle.reader.specs.Judged.{records_tell}
 use Rattle.reader.specs.Totals.{totals_tell}
-use borrow.Author.Rules.{rules}
 use mathlib.Core.Path.{sym, ◌∙◌}
 use Rattle.reader.proofs.reading.read_as.Goals as goal
 

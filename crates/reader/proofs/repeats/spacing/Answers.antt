@@ -1,5 +1,4 @@
 -- By the kind's fixed numbers.
-use borrow.Author.Rules.{rules}
 use Rattle.reader.proofs.repeats.spacing.Goals as goal
 
 pub overflow_add-result : goal.overflow_add-result

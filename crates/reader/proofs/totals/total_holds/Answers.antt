@@ -1,7 +1,6 @@
 -- The trailer's item against the quantity.
 use Rattle.tables.proofs.Tiling.{size-least}
 use Rattle.reader.specs.Totals.{total_holds}
-use borrow.Author.Rules.{rules}
 use native.Mathlib.Omega.{arith}
 use Rattle.reader.proofs.totals.total_holds.Goals as goal
 

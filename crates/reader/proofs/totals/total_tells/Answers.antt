@@ -1,7 +1,6 @@
 -- By whether the total holds.
 use Rattle.reader.proofs.Places.{total_inside}
 use Rattle.reader.specs.Totals.{total_tells}
-use borrow.Author.Rules.{rules}
 use Rattle.reader.proofs.totals.total_tells.Goals as goal
 
 pub total_holds-requires : goal.total_holds-requires

@@ -1,12 +1,9 @@
 -- The loop looks for the first total that is not what the records give.
-use Prim.Native.Nat.{◌≤◌, ◌-◌}
 use Rattle.laws.proofs.Leasts.{least_start}
-use Rattle.answers.proofs.Refusals.{So-far, told_more, told-stop, told-end}
-use Rattle.tables.specs.Totals.{totals_of}
+use Rattle.answers.proofs.Refusals.{told_more, told-stop, told-end}
 use Rattle.reader.specs.Totals.{total_tells, totals_tell}
 use borrow.Author.Rules.{rules}
-use lib.ListN.{length}
-use mathlib.Core.Path.{◌≡◌, sym}
+use mathlib.Core.Path.{sym}
 use native.Mathlib.Nat.{le_antisymm}
 use native.Mathlib.Omega.{arith}
 use Rattle.reader.proofs.totals.totals_tell.Goals as goal

@@ -1,18 +1,12 @@
 -- The loop looks for the first record that breaks a row, and sums up those before it.
 use Prim.Native.Nat.{◌≤◌, ◌-◌}
-use Rattle.answers.proofs.Refusals.{So-far, told_more, told-stop, told-end, number_of}
+use Rattle.answers.proofs.Refusals.{So-far}
 use Rattle.tables.specs.Totals.{most_totals}
-use Rattle.laws.proofs.Leasts.{least_start}
 use Rattle.laws.specs.Tabulate.{tabulate}
 use Rattle.records.specs.Records.{record_of}
-use Rattle.writer.proofs.Frame.{frame-count}
-use Rattle.writer.proofs.Summed.{sums-start, sums-more, sums-small}
 use Rattle.writer.specs.Writing.{data_told, sum_to}
-use borrow.Author.Rules.{rules}
 use lib.ListN.{length}
-use mathlib.Core.Path.{◌≡◌, refl, sym, ◌∙◌}
-use native.Mathlib.Nat.{le_antisymm}
-use native.Mathlib.Omega.{arith}
+use mathlib.Core.Path.{◌≡◌}
 use Rattle.writer.proofs.deciding.data_tells.Given as goal
 
 abbrev pub invariant-loop-i : goal.invariant-loop-i

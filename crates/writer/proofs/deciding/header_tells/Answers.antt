@@ -11,7 +11,6 @@ use native.Mathlib.Nat.{zero-mul}
 use Prim.Native.Nat.{ℕ, zero-le}
 use mathlib.Core.List.{List}
 use native.Mathlib.Omega.{arith}
-use borrow.Author.Rules.{rules}
 use Rattle.writer.proofs.deciding.header_tells.Goals as goal
 
 pub put_header-requires : goal.put_header-requires

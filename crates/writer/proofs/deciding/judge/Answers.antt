@@ -2,7 +2,6 @@
 use Rattle.builder.specs.Records.{head_of}
 use Rattle.writer.proofs.Decided.{by-header, by-data, by-trailer, by-keys}
 use native.Mathlib.Omega.{arith}
-use borrow.Author.Rules.{rules}
 use Rattle.writer.proofs.deciding.judge.Goals as goal
 
 pub returns-then-of_header-ne0 : goal.returns-then-of_header-ne0

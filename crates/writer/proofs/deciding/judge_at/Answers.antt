@@ -1,5 +1,4 @@
 -- The record in its role, against the header.
-use borrow.Author.Rules.{rules}
 use Rattle.writer.proofs.deciding.judge_at.Goals as goal
 
 pub judge-requires : goal.judge-requires

@@ -11,7 +11,6 @@ use mathlib.Core.Path.{◌≡◌, sym, ◌∙◌, ap}
 use native.Mathlib.Nat.{one-mul, le_of_eq}
 use native.Mathlib.Omega.{arith}
 use Prim.Native.Nat.{ℕ}
-use borrow.Author.Rules.{rules}
 use Rattle.writer.proofs.deciding.record_tells.Goals as goal
 
 pub put_record-requires : goal.put_record-requires

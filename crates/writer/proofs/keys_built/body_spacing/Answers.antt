@@ -1,6 +1,5 @@
 -- By the kind's fixed numbers.
 use Rattle.builder.proofs.Sizes.{key-behind}
-use borrow.Author.Rules.{rules}
 use Rattle.writer.proofs.keys_built.body_spacing.Goals as goal
 
 pub overflow_sub-result : goal.overflow_sub-result

@@ -3,7 +3,6 @@ use Rattle.reader.specs.Keys.{repeat_told}
 use Rattle.writer.specs.Writing.{keys_told}
 use Rattle.writer.proofs.Built.{keys-inside}
 use borrow.Author.Tests.{lt-ltb, le-ltb}
-use borrow.Author.Rules.{rules}
 use Rattle.writer.proofs.keys_built.keys_tell.Goals as goal
 
 pub first_repeat-i-requires : goal.first_repeat-i-requires

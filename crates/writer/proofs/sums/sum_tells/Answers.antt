@@ -3,7 +3,6 @@ use Rattle.tables.proofs.Counts.{totals-few}
 use Rattle.reader.proofs.Places.{total_inside}
 use Rattle.writer.specs.Writing.{sum_told}
 use native.Mathlib.Omega.{arith}
-use borrow.Author.Rules.{rules}
 use Rattle.writer.proofs.sums.sum_tells.Goals as goal
 
 pub part-requires : goal.part-requires

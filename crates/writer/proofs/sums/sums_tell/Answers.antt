@@ -1,12 +1,9 @@
 -- The loop looks for the first total that the trailer does not say.
-use Prim.Native.Nat.{◌≤◌, ◌-◌}
 use Rattle.laws.proofs.Leasts.{least_start}
-use Rattle.answers.proofs.Refusals.{So-far, told_more, told-stop, told-end}
-use Rattle.tables.specs.Totals.{totals_of}
+use Rattle.answers.proofs.Refusals.{told_more, told-stop, told-end}
 use Rattle.writer.specs.Writing.{sum_told, sums_told}
 use borrow.Author.Rules.{rules}
-use lib.ListN.{length}
-use mathlib.Core.Path.{◌≡◌, sym}
+use mathlib.Core.Path.{sym}
 use native.Mathlib.Nat.{le_antisymm}
 use native.Mathlib.Omega.{arith}
 use Rattle.writer.proofs.sums.sums_tell.Goals as goal

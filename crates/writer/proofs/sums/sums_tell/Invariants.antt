@@ -1,14 +1,10 @@
 -- The loop looks for the first total that the trailer does not say.
 use Prim.Native.Nat.{◌≤◌, ◌-◌}
-use Rattle.laws.proofs.Leasts.{least_start}
-use Rattle.answers.proofs.Refusals.{So-far, told_more, told-stop, told-end}
+use Rattle.answers.proofs.Refusals.{So-far}
 use Rattle.tables.specs.Totals.{totals_of}
-use Rattle.writer.specs.Writing.{sum_told, sums_told}
-use borrow.Author.Rules.{rules}
+use Rattle.writer.specs.Writing.{sum_told}
 use lib.ListN.{length}
-use mathlib.Core.Path.{◌≡◌, sym}
-use native.Mathlib.Nat.{le_antisymm}
-use native.Mathlib.Omega.{arith}
+use mathlib.Core.Path.{◌≡◌}
 use Rattle.writer.proofs.sums.sums_tell.Given as goal
 
 abbrev pub invariant-loop-t : goal.invariant-loop-t

@@ -1,16 +1,11 @@
 -- One sum after the other.
 use Prim.Native.Nat.{◌≤◌, ◌-◌}
 use Rattle.tables.specs.Totals.{most_totals}
-use Rattle.laws.proofs.Tabs.{tab-start, tab-more, tab-end}
 use Rattle.laws.specs.Tabulate.{tabulate}
 use Rattle.records.specs.Records.{record_of}
 use Rattle.writer.specs.Writing.{sum_with}
-use borrow.Author.Rules.{rules}
-use lib.ListN.{length, take, length-set}
-use mathlib.Core.List.{[]}
-use mathlib.Core.Path.{◌≡◌, refl}
-use native.Mathlib.Nat.{le_antisymm}
-use native.Mathlib.Omega.{arith}
+use lib.ListN.{length, take}
+use mathlib.Core.Path.{◌≡◌}
 use Rattle.writer.proofs.sums.with_record.Given as goal
 
 abbrev pub invariant-loop-t : goal.invariant-loop-t

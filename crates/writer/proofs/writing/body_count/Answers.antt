@@ -3,7 +3,6 @@ use Rattle.tables.proofs.Tiling.{size-least}
 use Rattle.builder.proofs.Sizes.{body-size}
 use Rattle.builder.specs.Records.{body_count}
 use native.Mathlib.Omega.{arith}
-use borrow.Author.Rules.{rules}
 use Rattle.writer.proofs.writing.body_count.Goals as goal
 
 pub nonzero_div-result : goal.nonzero_div-result

@@ -1,6 +1,5 @@
 -- The five tests, in their order.
 use Rattle.writer.specs.Writing.{parts_fit}
-use borrow.Author.Rules.{rules}
 use borrow.Author.Tests.{eq-eqb, ne_eqb}
 use Rattle.writer.proofs.writing.parts_fit.Goals as goal
 

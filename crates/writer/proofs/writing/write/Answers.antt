@@ -1,7 +1,6 @@
 -- The kind first.
 use Rattle.writer.specs.Writing.{write_of, room_after}
 use mathlib.Core.Path.{refl}
-use borrow.Author.Rules.{rules}
 use Rattle.writer.proofs.writing.write.Goals as goal
 
 pub returns-in-Is : goal.returns-in-Is

@@ -7,7 +7,6 @@ use Rattle.writer.specs.Writing.{parts_fit}
 use Rattle.builder.specs.Records.{head_of}
 use mathlib.Core.Path.{◌≡◌, refl, ◌∙◌}
 use native.Mathlib.Omega.{arith}
-use borrow.Author.Rules.{rules}
 use Rattle.writer.proofs.writing.write_as.Goals as goal
 
 pub parts_fit-requires : goal.parts_fit-requires
