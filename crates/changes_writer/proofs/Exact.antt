@@ -15,7 +15,7 @@ use Rattle.numbers.specs.Numbers.{value_of}
 use Rattle.kinds.specs.Kinds.{EB11}
 use Rattle.tables.specs.Totals.{totals_of}
 use Rattle.answers.specs.declared.told.Answer.{Answer}
-use Rattle.answers.specs.Answers.{accepted, refused, refuses}
+use Rattle.answers.specs.Answers.{accepted, refuses}
 use Rattle.answers.proofs.Refusals.{number_of, refuses-zero, refuses-other}
 use Rattle.answers.proofs.Stored.{room-refused, room-8, room-good, stores-none, stores-all}
 use Rattle.records.specs.Records.{data_of, trailer_of}

@@ -8,7 +8,7 @@ use mathlib.Core.Logic.{◌↔◌}
 use native.Mathlib.Nat.{le_trans}
 use native.Mathlib.Omega.{arith}
 use borrow.Author.Tests.{eqb-true, leb-true, eq-eqb, le-leb, not-false}
-use lib.Dec.{eqb, leb}
+use lib.Dec.{leb}
 use lib.ListN.{length, get_or, drop, replicate, length-append}
 use Rattle.laws.specs.Least.{none}
 use Rattle.laws.specs.Part.{part}

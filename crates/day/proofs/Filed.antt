@@ -12,7 +12,6 @@ use Rattle.laws.specs.Part.{part}
 use Rattle.laws.proofs.Joins.{sized-length, sized-part, joined_same, parts-joined}
 use Rattle.laws.proofs.Parts.{part_length, part-part, part-short}
 use Rattle.laws.proofs.Pieces.{part-within, part-behind, part-first, piece_then, piece-at, part-two}
-use Rattle.text.specs.Characters.{digits}
 use Rattle.numbers.specs.Numbers.{value_of, digits_of}
 use Rattle.numbers.proofs.Values.{digits-length, digits_are, digits_value, value-digits}
 use Rattle.day.specs.Contents.{width_of, form_for, width_for, most, entry_at, end_in, width_in, count_in, name_in, digits_in, length_in, bodies_in}
@@ -21,7 +20,7 @@ use Rattle.day.specs.Meets.{entry_of, file_of}
 use Rattle.day.specs.First.{Contents}
 use Rattle.day.specs.Holds.{Holds}
 use Rattle.day.proofs.Forms.{form-same, width_fits, entry_next}
-use Rattle.day.proofs.Contained.{entry-inside, digits_long}
+use Rattle.day.proofs.Contained.{digits_long}
 
 -- the same names and lengths, the same file
 pub file-same :

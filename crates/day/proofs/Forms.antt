@@ -2,17 +2,16 @@
 -- Assumes nothing.
 use Prim.Native.Nat.{ℕ, ◌+◌, ◌*◌, ◌≤◌, ◌<◌, ◌^◌}
 use mathlib.Core.Bool.{true, false}
-use mathlib.Core.Path.{◌≡◌, refl, sym, ◌∙◌}
+use mathlib.Core.Path.{◌≡◌, refl}
 use mathlib.Core.Logic.{◌⊎◌, ⊎_elim, inl, inr}
-use native.Mathlib.Nat.{le_refl, le_trans, mul-le-mul, mul-le-mul_right, suc-mul}
-use native.Mathlib.Numerals.{add-one}
+use native.Mathlib.Nat.{mul-le-mul, mul-le-mul_right, suc-mul}
 use native.Mathlib.Omega.{arith}
 use borrow.Author.Tests.{leb-false}
 use lib.Dec.{eqb}
 use Rattle.laws.specs.Least.{none}
 use Rattle.laws.proofs.Bools.{either}
 use Rattle.laws.proofs.Leasts.{least-same, none_each}
-use Rattle.day.specs.Contents.{form_one, form_two, width_of, long_at, form_for, width_for, front, length_end, entry_at}
+use Rattle.day.specs.Contents.{form_two, width_of, long_at, form_for, width_for, length_end}
 use Rattle.day.specs.Bodies.{Short}
 
 -- five digits or six

@@ -1,14 +1,12 @@
 -- How many there are, then each.
-use Prim.Native.Nat.{◌≤◌, ◌-◌}
 use mathlib.Core.Path.{◌≡◌, sym, ◌∙◌}
 use native.Mathlib.Nat.{le_antisymm}
 use native.Mathlib.Omega.{arith}
 use Rattle.laws.proofs.Leasts.{least_start}
-use Rattle.answers.proofs.Refusals.{So-far, number_of, told_more, told-stop, told-end}
+use Rattle.answers.proofs.Refusals.{number_of, told_more, told-stop, told-end}
 use borrow.Author.Tests.{eq-eqb, ne_eqb}
 use Rattle.answers.specs.Answers.{accepted, refused}
 use Rattle.changes.specs.Answers.{answer_told, answers_told}
-use borrow.Author.Rules.{rules}
 use Rattle.changes.proofs.codes.answers_tell.Goals as goal
 
 pub returns-then-answers-n : goal.returns-then-answers-n

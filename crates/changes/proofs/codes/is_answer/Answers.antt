@@ -1,7 +1,6 @@
 -- Yes, or a code.
 use borrow.Author.Tests.{eq-eqb, ne_eqb}
 use Rattle.changes.specs.Answers.{is_answer}
-use borrow.Author.Rules.{rules}
 use Rattle.changes.proofs.codes.is_answer.Goals as goal
 
 pub returns-then-answer-eq0 : goal.returns-then-answer-eq0

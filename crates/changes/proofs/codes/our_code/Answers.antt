@@ -1,10 +1,7 @@
 -- The search looks for the code, place by place.
-use Prim.Native.Nat.{◌≤◌, ◌-◌}
-use mathlib.Core.Path.{◌≡◌}
 use native.Mathlib.Nat.{le_antisymm}
 use lib.ListN.{get_or}
 use borrow.Author.Tests.{eq-eqb, ne_eqb, lt-ltb}
-use Rattle.laws.specs.Least.{least}
 use Rattle.laws.proofs.Leasts.{least_start, least_more, least-stop}
 use Rattle.tables.specs.Among.{code_is, place_among, is_among}
 use Rattle.changes.specs.Answers.{our_codes}

@@ -9,7 +9,6 @@ use Rattle.answers.proofs.Refusals.{number_of, then-first, then-second}
 use Rattle.reader.proofs.Places.{key_fits}
 use Rattle.changes.specs.Deciding.{answered_told}
 use Rattle.changes.proofs.Told.{answers-many}
-use borrow.Author.Rules.{rules}
 use Rattle.changes.proofs.deciding.answered_tells.Goals as goal
 
 pub spacing-spacing-requires : goal.spacing-spacing-requires

@@ -4,7 +4,6 @@ use Rattle.kinds.specs.Kinds.{EB11}
 use Rattle.answers.proofs.Refusals.{number_of, then-first, then-second}
 use Rattle.reader.proofs.Exact.{accepted-meets}
 use Rattle.changes.specs.Deciding.{decided}
-use borrow.Author.Rules.{rules}
 use Rattle.changes.proofs.deciding.decide.Goals as goal
 
 pub returns-then-of_reading-ne0 : goal.returns-then-of_reading-ne0

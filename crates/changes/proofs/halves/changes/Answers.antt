@@ -1,6 +1,5 @@
 -- Item 10 as one number.
 use Rattle.changes.specs.Halves.{changes}
-use borrow.Author.Rules.{rules}
 use Rattle.changes.proofs.halves.changes.Goals as goal
 
 pub returns : goal.returns

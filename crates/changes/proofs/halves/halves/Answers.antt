@@ -1,7 +1,6 @@
 -- The tests, in their order.
 use borrow.Author.Tests.{not-true, not-false}
 use Rattle.changes.specs.Halves.{halves}
-use borrow.Author.Rules.{rules}
 use Rattle.changes.proofs.halves.halves.Goals as goal
 
 pub returns-then-not-changes : goal.returns-then-not-changes

@@ -1,6 +1,5 @@
 -- Item 7, then item 8.
 use Rattle.changes.specs.Halves.{moves}
-use borrow.Author.Rules.{rules}
 use Rattle.changes.proofs.halves.moves.Goals as goal
 
 pub returns-then-same : goal.returns-then-same

@@ -1,6 +1,5 @@
 -- Item 6 of both.
 use Rattle.changes.specs.Halves.{same_payer}
-use borrow.Author.Rules.{rules}
 use Rattle.changes.proofs.halves.one_payer.Goals as goal
 
 pub returns : goal.returns

@@ -2,7 +2,6 @@
 use mathlib.Core.Path.{◌∙◌}
 use Rattle.changes.specs.Keyed.{other_key}
 use Rattle.changes.proofs.Found.{key-stored}
-use borrow.Author.Rules.{rules}
 use Rattle.changes.proofs.halves.other_key.Goals as goal
 
 pub returns : goal.returns

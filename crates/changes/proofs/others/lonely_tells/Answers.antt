@@ -1,7 +1,6 @@
 -- Whether it says so, then whether its other half is there.
 use borrow.Author.Tests.{lt-ltb, le-ltb}
 use Rattle.changes.specs.Deciding.{has_other, lonely, lonely_told}
-use borrow.Author.Rules.{rules}
 use Rattle.changes.proofs.others.lonely_tells.Goals as goal
 
 pub returns-then-other_of-n : goal.returns-then-other_of-n

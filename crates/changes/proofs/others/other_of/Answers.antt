@@ -5,7 +5,6 @@ use Rattle.kinds.specs.Kinds.{EB11}
 use Rattle.reader.proofs.Places.{key_fits}
 use Rattle.changes.specs.Halves.{halves_in}
 use Rattle.changes.proofs.Found.{keyed-other, keyed-none}
-use borrow.Author.Rules.{rules}
 use Rattle.changes.proofs.others.other_of.Goals as goal
 
 pub place-j-requires : goal.place-j-requires

@@ -1,7 +1,6 @@
 -- The other half, then its answer.
 use borrow.Author.Tests.{lt-ltb, le-ltb}
 use Rattle.changes.specs.Deciding.{has_other, split, split_told}
-use borrow.Author.Rules.{rules}
 use Rattle.changes.proofs.others.split_tells.Goals as goal
 
 pub returns-then-apart : goal.returns-then-apart

@@ -1,12 +1,10 @@
 -- The loop looks for the first of a split change.
-use Prim.Native.Nat.{◌≤◌, ◌-◌}
 use mathlib.Core.Path.{sym, ◌∙◌}
 use native.Mathlib.Nat.{le_antisymm}
 use native.Mathlib.Omega.{arith}
 use Rattle.laws.proofs.Leasts.{least_start}
-use Rattle.answers.proofs.Refusals.{So-far, told_more, told-stop, told-end}
+use Rattle.answers.proofs.Refusals.{told_more, told-stop, told-end}
 use Rattle.changes.specs.Deciding.{split_told}
-use borrow.Author.Rules.{rules}
 use Rattle.changes.proofs.others.splits_tell.Goals as goal
 
 pub loop-i-init : goal.loop-i-init

@@ -1,12 +1,7 @@
 -- The loop looks for the first of a split change.
 use Prim.Native.Nat.{◌≤◌, ◌-◌}
-use mathlib.Core.Path.{sym, ◌∙◌}
-use native.Mathlib.Nat.{le_antisymm}
-use native.Mathlib.Omega.{arith}
-use Rattle.laws.proofs.Leasts.{least_start}
-use Rattle.answers.proofs.Refusals.{So-far, told_more, told-stop, told-end}
+use Rattle.answers.proofs.Refusals.{So-far}
 use Rattle.changes.specs.Deciding.{split_told}
-use borrow.Author.Rules.{rules}
 use Rattle.changes.proofs.others.splits_tell.Given as goal
 
 abbrev pub invariant-loop-i : goal.invariant-loop-i

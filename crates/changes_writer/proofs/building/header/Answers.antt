@@ -1,6 +1,5 @@
 -- The name is stored.
 use Rattle.changes_writer.specs.Building.{name, header_for}
-use borrow.Author.Rules.{rules}
 use Rattle.changes_writer.proofs.building.header.Goals as goal
 
 pub returns : goal.returns

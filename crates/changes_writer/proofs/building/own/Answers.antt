@@ -2,7 +2,6 @@
 use mathlib.Core.Path.{◌∙◌}
 use lib.ListN.{replicate}
 use Rattle.laws.proofs.Stores.{stored-all}
-use borrow.Author.Rules.{rules}
 use Rattle.changes_writer.proofs.building.own.Goals as goal
 
 pub returns : goal.returns

@@ -1,15 +1,10 @@
 -- One total after the other.
-use Prim.Native.Nat.{◌≤◌, ◌-◌}
-use mathlib.Core.Path.{◌≡◌, sym, ◌∙◌}
+use mathlib.Core.Path.{sym, ◌∙◌}
 use native.Mathlib.Nat.{le_antisymm}
 use native.Mathlib.Omega.{arith}
-use lib.ListN.{length}
 use Rattle.kinds.specs.Kinds.{EB11}
-use Rattle.tables.specs.Totals.{totals_of}
 use Rattle.reader.proofs.Places.{total_inside}
-use Rattle.changes_writer.specs.Building.{totals_to}
 use Rattle.changes_writer.proofs.Built.{totals-start, totals-more}
-use borrow.Author.Rules.{rules}
 use Rattle.changes_writer.proofs.building.put_totals.Goals as goal
 
 pub loop-t-init : goal.loop-t-init

@@ -1,6 +1,5 @@
 -- The serial and the result are stored.
 use Rattle.changes_writer.specs.Building.{refused_for}
-use borrow.Author.Rules.{rules}
 use Rattle.changes_writer.proofs.building.refused.Goals as goal
 
 pub returns : goal.returns

@@ -1,6 +1,5 @@
 -- The letters of the code.
 use Rattle.changes_writer.specs.Building.{result_for}
-use borrow.Author.Rules.{rules}
 use Rattle.changes_writer.proofs.building.result.Goals as goal
 
 pub returns : goal.returns

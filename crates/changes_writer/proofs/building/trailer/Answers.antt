@@ -1,7 +1,6 @@
 -- The name, the MAC and the totals are stored.
 use native.Mathlib.Omega.{arith}
 use Rattle.changes_writer.specs.Building.{name, trailer_for}
-use borrow.Author.Rules.{rules}
 use Rattle.changes_writer.proofs.building.trailer.Goals as goal
 
 pub overflow_sub-last : goal.overflow_sub-last

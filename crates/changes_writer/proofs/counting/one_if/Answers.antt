@@ -2,7 +2,6 @@
 use native.Mathlib.Omega.{arith}
 use Rattle.changes_writer.specs.Building.{one_if}
 use Rattle.changes_writer.proofs.Built.{no-yes, no_other}
-use borrow.Author.Rules.{rules}
 use Rattle.changes_writer.proofs.counting.one_if.Goals as goal
 
 pub returns-then-answers-i-eq0 : goal.returns-then-answers-i-eq0

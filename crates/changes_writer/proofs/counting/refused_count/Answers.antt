@@ -1,13 +1,9 @@
 -- The count so far.
-use Prim.Native.Nat.{◌≤◌, ◌-◌}
-use mathlib.Core.Path.{◌≡◌, sym}
+use mathlib.Core.Path.{sym}
 use native.Mathlib.Nat.{le_antisymm}
 use native.Mathlib.Omega.{arith}
-use lib.ListN.{length}
-use Rattle.laws.specs.Sum
 use Rattle.laws.proofs.Sums.{sum-start, sum_more}
-use Rattle.changes_writer.specs.Building.{one_if, refused_to}
-use borrow.Author.Rules.{rules}
+use Rattle.changes_writer.specs.Building.{refused_to}
 use Rattle.changes_writer.proofs.counting.refused_count.Goals as goal
 
 pub loop-i-init : goal.loop-i-init

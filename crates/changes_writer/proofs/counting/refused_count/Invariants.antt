@@ -1,13 +1,9 @@
 -- The count so far.
 use Prim.Native.Nat.{◌≤◌, ◌-◌}
-use mathlib.Core.Path.{◌≡◌, sym}
-use native.Mathlib.Nat.{le_antisymm}
-use native.Mathlib.Omega.{arith}
+use mathlib.Core.Path.{◌≡◌}
 use lib.ListN.{length}
 use Rattle.laws.specs.Sum
-use Rattle.laws.proofs.Sums.{sum-start, sum_more}
-use Rattle.changes_writer.specs.Building.{one_if, refused_to}
-use borrow.Author.Rules.{rules}
+use Rattle.changes_writer.specs.Building.{one_if}
 use Rattle.changes_writer.proofs.counting.refused_count.Given as goal
 
 abbrev pub invariant-loop-i : goal.invariant-loop-i

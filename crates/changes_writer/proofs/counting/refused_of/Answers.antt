@@ -1,13 +1,9 @@
 -- The sum so far.
-use Prim.Native.Nat.{◌≤◌, ◌-◌, ◌*◌, ◌^◌}
-use mathlib.Core.Path.{◌≡◌, sym}
+use mathlib.Core.Path.{sym}
 use native.Mathlib.Nat.{le_antisymm}
 use native.Mathlib.Omega.{arith}
-use lib.ListN.{length}
-use Rattle.laws.specs.Sum
 use Rattle.laws.proofs.Sums.{sum-start, sum_more}
-use Rattle.changes_writer.specs.Building.{worth_if, refused_of}
-use borrow.Author.Rules.{rules}
+use Rattle.changes_writer.specs.Building.{refused_of}
 use Rattle.changes_writer.proofs.counting.refused_of.Goals as goal
 
 pub loop-i-init : goal.loop-i-init

@@ -1,13 +1,9 @@
 -- The sum so far.
 use Prim.Native.Nat.{◌≤◌, ◌-◌, ◌*◌, ◌^◌}
-use mathlib.Core.Path.{◌≡◌, sym}
-use native.Mathlib.Nat.{le_antisymm}
-use native.Mathlib.Omega.{arith}
+use mathlib.Core.Path.{◌≡◌}
 use lib.ListN.{length}
 use Rattle.laws.specs.Sum
-use Rattle.laws.proofs.Sums.{sum-start, sum_more}
-use Rattle.changes_writer.specs.Building.{worth_if, refused_of}
-use borrow.Author.Rules.{rules}
+use Rattle.changes_writer.specs.Building.{worth_if}
 use Rattle.changes_writer.proofs.counting.refused_of.Given as goal
 
 abbrev pub invariant-loop-i : goal.invariant-loop-i

@@ -2,7 +2,6 @@
 use mathlib.Core.Path.{◌∙◌}
 use native.Mathlib.Omega.{arith}
 use Rattle.changes_writer.proofs.Built.{file-stored}
-use borrow.Author.Rules.{rules}
 use Rattle.changes_writer.proofs.writing.put.Goals as goal
 
 pub put_records-requires : goal.put_records-requires

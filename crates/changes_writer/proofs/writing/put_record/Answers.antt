@@ -4,7 +4,6 @@ use mathlib.Core.Path.{◌∙◌}
 use native.Mathlib.Omega.{arith}
 use Rattle.laws.proofs.Stores.{stored-none}
 use Rattle.changes_writer.proofs.Built.{no-yes, no_other, yes-more, yes-record, no_more, no_record}
-use borrow.Author.Rules.{rules}
 use Rattle.changes_writer.proofs.writing.put_record.Goals as goal
 
 pub returns-then-code-eq0 : goal.returns-then-code-eq0

@@ -1,14 +1,10 @@
 -- One record behind the other.
 use Prim.Native.Nat.{◌≤◌, ◌-◌}
-use mathlib.Core.Path.{◌≡◌, refl, ◌∙◌}
-use native.Mathlib.Nat.{le_antisymm}
-use native.Mathlib.Omega.{arith}
+use mathlib.Core.Path.{◌≡◌}
 use lib.ListN.{length}
 use Rattle.laws.specs.Joined.{joined}
 use Rattle.laws.specs.Stored.{stored}
 use Rattle.changes_writer.specs.Building.{refused_to, record_for}
-use Rattle.changes_writer.proofs.Built.{records-none, records-more, refused-start, refused-within}
-use borrow.Author.Rules.{rules}
 use Rattle.changes_writer.proofs.writing.put_records.Given as goal
 
 abbrev pub invariant-loop-i : goal.invariant-loop-i

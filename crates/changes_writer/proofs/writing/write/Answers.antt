@@ -8,7 +8,6 @@ use Rattle.changes.proofs.Told.{decided-few, decided-zero}
 use Rattle.changes_writer.specs.Building.{file_for}
 use Rattle.changes_writer.specs.Writing.{write_of, room_after, write_told, written}
 use Rattle.changes_writer.proofs.Ready.{decided-ready, size_is}
-use borrow.Author.Rules.{rules}
 use Rattle.changes_writer.proofs.writing.write.Goals as goal
 
 pub returns-then-answer-ne0 : goal.returns-then-answer-ne0

@@ -1,17 +1,11 @@
 -- Body after body, each where the lengths before it end.
-use Prim.Native.Nat.{◌+◌, ◌-◌, ◌≤◌}
+use Prim.Native.Nat.{◌-◌, ◌≤◌}
 use mathlib.Core.List.{[]}
-use mathlib.Core.Path.{◌≡◌, sym, ◌∙◌}
-use native.Mathlib.Omega.{arith}
-use lib.ListN.{length}
+use mathlib.Core.Path.{◌≡◌}
 use Rattle.laws.specs.Sum.{sum}
-use Rattle.laws.proofs.Leasts.{least_start}
-use Rattle.laws.proofs.Sums.{sum-start, sum_more, sum-up}
-use Rattle.answers.proofs.Refusals.{So-far, number_of, told_more}
+use Rattle.answers.proofs.Refusals.{So-far}
 use Rattle.keys.specs.Stands.{key_in}
-use Rattle.day.specs.Bodies.{size_at, body_in, body_told_at}
-use Rattle.day.proofs.Listed.{bodies-stop, bodies-end}
-use borrow.Author.Rules.{rules}
+use Rattle.day.specs.Bodies.{size_at, body_told_at}
 use Rattle.day.proofs.bodies.bodies_tell.Given as goal
 
 abbrev pub invariant-loop-i : goal.invariant-loop-i

@@ -4,7 +4,6 @@ use native.Mathlib.Omega.{arith}
 use Rattle.answers.proofs.Refusals.{number_of, then-first, then-second}
 use Rattle.day.specs.Bodies.{body_told}
 use Rattle.day.proofs.Body.{good-long}
-use borrow.Author.Rules.{rules}
 use Rattle.day.proofs.bodies.body_tells.Goals as goal
 
 pub returns-then-of_reading-ne0 : goal.returns-then-of_reading-ne0

@@ -2,7 +2,6 @@
 use mathlib.Core.Path.{sym, ◌∙◌}
 use native.Mathlib.Nat.{le_of_eq}
 use Rattle.day.proofs.Listed.{list-31, list-32, list-33}
-use borrow.Author.Rules.{rules}
 use Rattle.day.proofs.bodies.list_tells.Goals as goal
 
 pub returns-then-i-n : goal.returns-then-i-n

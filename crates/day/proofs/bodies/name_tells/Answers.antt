@@ -1,6 +1,5 @@
 -- Item 4 of the header beside the name.
 use Rattle.day.specs.Bodies.{name_told}
-use borrow.Author.Rules.{rules}
 use Rattle.day.proofs.bodies.name_tells.Goals as goal
 
 pub returns-then-same : goal.returns-then-same

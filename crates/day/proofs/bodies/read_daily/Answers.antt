@@ -1,6 +1,5 @@
 -- A kind of a day file first.
 use Rattle.day.specs.Bodies.{read_daily}
-use borrow.Author.Rules.{rules}
 use Rattle.day.proofs.bodies.read_daily.Goals as goal
 
 pub returns-in-Is : goal.returns-in-Is

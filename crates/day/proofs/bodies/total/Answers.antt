@@ -1,11 +1,9 @@
 -- One length after the other.
-use Prim.Native.Nat.{◌-◌, ◌*◌, ◌≤◌}
 use mathlib.Core.Path.{◌≡◌, sym, ◌∙◌, ap}
 use native.Mathlib.Omega.{arith}
 use Rattle.laws.specs.Sum.{sum}
 use Rattle.laws.proofs.Sums.{sum-start, sum_more}
 use Rattle.day.specs.Bodies.{size_at}
-use borrow.Author.Rules.{rules}
 use Rattle.day.proofs.bodies.total.Goals as goal
 
 pub loop-i-init : goal.loop-i-init

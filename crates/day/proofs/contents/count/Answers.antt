@@ -2,7 +2,6 @@
 use mathlib.Core.Path.{◌∙◌}
 use Rattle.numbers.proofs.Values.{value-size}
 use Rattle.day.specs.Contents.{count_in}
-use borrow.Author.Rules.{rules}
 use Rattle.day.proofs.contents.count.Goals as goal
 
 pub returns : goal.returns

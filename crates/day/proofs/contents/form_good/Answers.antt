@@ -1,11 +1,9 @@
 -- The form by the list of lengths.
 use mathlib.Core.Path.{◌∙◌}
-use native.Mathlib.Omega.{arith}
 use Rattle.day.specs.Contents.{length_in, form_good}
 use Rattle.day.specs.Bodies.{size_at}
 use Rattle.day.proofs.Forms.{form-same}
 use Rattle.day.proofs.Contained.{size_in, size_room}
-use borrow.Author.Rules.{rules}
 use Rattle.day.proofs.contents.form_good.Goals as goal
 
 pub form_for-requires : goal.form_for-requires

@@ -2,7 +2,6 @@
 use borrow.Author.Tests.{lt-leb, le-leb}
 use Rattle.text.specs.Characters.{digits}
 use Rattle.day.specs.Contents.{front_good}
-use borrow.Author.Rules.{rules}
 use Rattle.day.proofs.contents.front_good.Goals as goal
 
 pub returns-then-file-lt-FRONT : goal.returns-then-file-lt-FRONT

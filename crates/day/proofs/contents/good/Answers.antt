@@ -2,7 +2,6 @@
 use mathlib.Core.Path.{sym, ◌∙◌}
 use Rattle.day.specs.Contents.{contents_good}
 use Rattle.day.proofs.Contained.{front-three, table-few}
-use borrow.Author.Rules.{rules}
 use Rattle.day.proofs.contents.good.Goals as goal
 
 pub width_in-width-requires : goal.width_in-width-requires

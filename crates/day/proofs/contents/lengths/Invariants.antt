@@ -1,14 +1,10 @@
 -- One length after the other.
 use Prim.Native.Nat.{◌-◌, ◌≤◌}
 use mathlib.Core.List.{◌++◌}
-use mathlib.Core.Path.{◌≡◌, ◌∙◌}
-use native.Mathlib.Omega.{arith}
+use mathlib.Core.Path.{◌≡◌}
 use lib.ListN.{drop, replicate}
 use Rattle.laws.specs.Tabulate.{tabulate}
-use Rattle.laws.proofs.Tabs.{fill_start, fill_more}
-use Rattle.day.specs.Contents.{most, digits_in, length_in}
-use Rattle.day.proofs.Forms.{entry_next, entries-small}
-use borrow.Author.Rules.{rules}
+use Rattle.day.specs.Contents.{most, length_in}
 use Rattle.day.proofs.contents.lengths.Given as goal
 
 abbrev pub invariant-loop-i : goal.invariant-loop-i

@@ -1,13 +1,10 @@
 -- The digits of one length after the other.
-use Prim.Native.Nat.{◌-◌, ◌≤◌}
 use mathlib.Core.Path.{◌≡◌, sym}
 use native.Mathlib.Omega.{arith}
-use Rattle.laws.specs.Least.{least}
 use Rattle.laws.proofs.Leasts.{least_start, least_more, none_true, none-false}
 use Rattle.text.specs.Characters.{digits}
 use Rattle.day.specs.Contents.{digits_in, bad_length}
 use Rattle.day.proofs.Forms.{entry_next, entries-small}
-use borrow.Author.Rules.{rules}
 use Rattle.day.proofs.contents.lengths_good.Goals as goal
 
 pub loop-i-init : goal.loop-i-init

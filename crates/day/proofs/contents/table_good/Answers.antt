@@ -3,7 +3,6 @@ use native.Mathlib.Omega.{arith}
 use borrow.Author.Tests.{le-leb, lt-leb}
 use Rattle.day.specs.Contents.{table_good}
 use Rattle.day.proofs.Forms.{entries-small}
-use borrow.Author.Rules.{rules}
 use Rattle.day.proofs.contents.table_good.Goals as goal
 
 pub overflow_mul-result : goal.overflow_mul-result

@@ -1,6 +1,5 @@
 -- By the first byte.
 use Rattle.day.specs.Contents.{width_in}
-use borrow.Author.Rules.{rules}
 use Rattle.day.proofs.contents.width_in.Goals as goal
 
 pub returns : goal.returns

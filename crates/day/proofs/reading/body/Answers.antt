@@ -1,5 +1,5 @@
 -- A body lies behind the contents and the lengths before it.
-use Prim.Native.Nat.{◌-◌, ◌≤◌}
+use Prim.Native.Nat.{◌≤◌}
 use mathlib.Core.Path.{sym, ◌∙◌}
 use native.Mathlib.Nat.{le_trans}
 use native.Mathlib.Omega.{arith}
@@ -9,7 +9,6 @@ use Rattle.day.specs.First.{Contents}
 use Rattle.day.proofs.Forms.{entries-small}
 use Rattle.day.proofs.Contained.{size_room, size-short}
 use Rattle.day.proofs.Told.{read-contents, shown-refused, shown-from, shown-nowhere}
-use borrow.Author.Rules.{rules}
 use Rattle.day.proofs.reading.body.Goals as goal
 
 pub returns-then-answer-ne0 : goal.returns-then-answer-ne0

@@ -8,7 +8,6 @@ use Rattle.day.specs.First.{Contents}
 use Rattle.day.proofs.Forms.{entries-small}
 use Rattle.day.proofs.Contained.{contents-good, names-inside, size_room, size-short}
 use Rattle.day.proofs.Told.{read-30, read_by}
-use borrow.Author.Rules.{rules}
 use Rattle.day.proofs.reading.look.Goals as goal
 
 pub width_in-width-requires : goal.width_in-width-requires

@@ -3,7 +3,6 @@ use mathlib.Core.Path.{sym, ◌∙◌}
 use Rattle.answers.proofs.OfDay.{day-number, day-is, day-not}
 use Rattle.day.specs.Reading.{read_of, counted_of}
 use Rattle.day.proofs.Told.{read-contents}
-use borrow.Author.Rules.{rules}
 use Rattle.day.proofs.reading.read.Goals as goal
 
 pub returns-then-answer-ne0 : goal.returns-then-answer-ne0

@@ -1,14 +1,9 @@
 -- Both lists are filled from the front.
-use Prim.Native.Nat.{◌≤◌, ◌-◌}
 use Rattle.laws.proofs.Tabs.{fill_start, fill_more}
-use Rattle.laws.specs.Tabulate.{tabulate}
 use Rattle.matching.proofs.Found.{left-of, result_fits}
-use Rattle.matching.specs.Amounts.{taken_at, not_taken_at}
-use Rattle.kinds.specs.Pairs.{request_kind}
-use Rattle.records.specs.Records.{data_of}
-use lib.ListN.{length, drop, length-set}
-use mathlib.Core.List.{◌++◌}
-use mathlib.Core.Path.{◌≡◌, refl, ◌∙◌}
+use Rattle.matching.specs.Amounts.{taken_at}
+use lib.ListN.{length-set}
+use mathlib.Core.Path.{refl, ◌∙◌}
 use native.Mathlib.Nat.{le_antisymm}
 use native.Mathlib.Omega.{arith}
 use borrow.Author.Rules.{rules}

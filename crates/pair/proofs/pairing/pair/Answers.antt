@@ -1,7 +1,6 @@
 -- The pair kind first.
 use Rattle.pair.specs.Pairing.{pair_told, taken_after, not_taken_after}
 use mathlib.Core.Path.{refl}
-use borrow.Author.Rules.{rules}
 use Rattle.pair.proofs.pairing.pair.Goals as goal
 
 pub returns-in-Is : goal.returns-in-Is

@@ -4,7 +4,6 @@ use Rattle.pair.proofs.Matched.{pair-known}
 use Rattle.pair.proofs.Stages.{pair_fits, lent_fits, lent-told, list-filled, list-kept}
 use lib.ListN.{length}
 use mathlib.Core.Path.{sym, ◌∙◌, ap}
-use borrow.Author.Rules.{rules}
 use Rattle.pair.proofs.pairing.pair_as.Goals as goal
 
 pub fill-requires : goal.fill-requires

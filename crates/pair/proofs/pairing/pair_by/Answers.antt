@@ -3,7 +3,6 @@ use Rattle.pair.proofs.Stages.{read_number, by-request, by_result, by-headers, b
 use Rattle.kinds.specs.Pairs.{request_kind, result_kind}
 use Rattle.reader.proofs.Exact.{accepted-meets}
 use mathlib.Core.Path.{sym, ◌∙◌}
-use borrow.Author.Rules.{rules}
 use Rattle.pair.proofs.pairing.pair_by.Goals as goal
 
 pub returns-then-of_request-ne0 : goal.returns-then-of_request-ne0

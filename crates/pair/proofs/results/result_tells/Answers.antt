@@ -6,7 +6,6 @@ use Rattle.records.proofs.Places.{count_small}
 use borrow.Author.Tests.{lt-ltb, le-ltb}
 use mathlib.Core.Path.{◌∙◌}
 use native.Mathlib.Omega.{arith}
-use borrow.Author.Rules.{rules}
 use Rattle.pair.proofs.results.result_tells.Goals as goal
 
 pub overflow_add-rec : goal.overflow_add-rec

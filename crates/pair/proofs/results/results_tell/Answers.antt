@@ -1,12 +1,9 @@
 -- The loop looks for the first result that cannot stand.
-use Prim.Native.Nat.{◌≤◌, ◌-◌}
 use Rattle.laws.proofs.Leasts.{least_start}
-use Rattle.answers.proofs.Refusals.{So-far, told_more, told-stop, told-end}
-use Rattle.kinds.specs.Pairs.{result_kind}
+use Rattle.answers.proofs.Refusals.{told_more, told-stop, told-end}
 use Rattle.matching.proofs.Found.{request-of, requests-length}
 use Rattle.pair.specs.Results.{result_tells, results_tell}
-use Rattle.records.specs.Records.{data_of}
-use mathlib.Core.Path.{◌≡◌, sym}
+use mathlib.Core.Path.{sym}
 use native.Mathlib.Nat.{le_antisymm}
 use native.Mathlib.Omega.{arith}
 use borrow.Author.Rules.{rules}

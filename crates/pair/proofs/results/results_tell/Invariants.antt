@@ -1,15 +1,10 @@
 -- The loop looks for the first result that cannot stand.
 use Prim.Native.Nat.{◌≤◌, ◌-◌}
-use Rattle.laws.proofs.Leasts.{least_start}
-use Rattle.answers.proofs.Refusals.{So-far, told_more, told-stop, told-end}
+use Rattle.answers.proofs.Refusals.{So-far}
 use Rattle.kinds.specs.Pairs.{result_kind}
-use Rattle.matching.proofs.Found.{request-of, requests-length}
-use Rattle.pair.specs.Results.{result_tells, results_tell}
+use Rattle.pair.specs.Results.{result_tells}
 use Rattle.records.specs.Records.{data_of}
-use mathlib.Core.Path.{◌≡◌, sym}
-use native.Mathlib.Nat.{le_antisymm}
-use native.Mathlib.Omega.{arith}
-use borrow.Author.Rules.{rules}
+use mathlib.Core.Path.{◌≡◌}
 use Rattle.pair.proofs.results.results_tell.Given as goal
 
 abbrev pub invariant-loop-j : goal.invariant-loop-j
