@@ -23,7 +23,7 @@ fn printed<'a>(request: &[u8], res: &[u8], output: &'a mut [u8]) -> &'a [u8]
 }
 
 // Reads `request` and `result` and prints what `printed` gives of them. No contract can say what a folder holds, or that
-// something is printed; it answers nothing and is lent nothing.
+// something is printed; it answers only whether printing failed.
 pub fn post(rt: &(impl Files + Print)) -> io::Result<()>
     ensures { IfOk result (λ x. x ≡ tt) }
 {
