@@ -4,7 +4,7 @@
 use std::path::{Path, PathBuf};
 
 /// Prints and returns nothing: what it reads and writes is the machine's (docs/DECISIONS.md).
-const EXCEPTIONS: [&str; 1] = ["folder::posts::post"];
+const EXCEPTIONS: [&str; 2] = ["folder::posts::post", "words::input::read_full"];
 
 /// One public function: its path, its parameters with what it returns, and its `ensures` lines.
 struct Function {

@@ -1,14 +1,8 @@
 -- One body behind the other.
 use Prim.Native.Nat.{◌≤◌, ◌-◌}
-use mathlib.Core.Path.{◌≡◌, refl, ◌∙◌}
-use native.Mathlib.Nat.{le_antisymm}
-use native.Mathlib.Omega.{arith}
-use borrow.Author.Rules.{rules}
+use mathlib.Core.Path.{◌≡◌}
 use lib.ListN.{length}
-use Rattle.laws.proofs.Joins.{size_below}
-use Rattle.kinds.specs.Kinds.{fixed_of}
-use Rattle.writer.specs.Apart.{bodies_in}
-use Rattle.apart.proofs.Bodies.{Stored, store-start, store-more, body-within}
+use Rattle.apart.proofs.Bodies.{Stored}
 use Rattle.apart.proofs.storing.store.Given as goal
 
 abbrev pub invariant-loop-i : goal.invariant-loop-i

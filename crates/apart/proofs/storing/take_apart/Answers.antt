@@ -1,7 +1,6 @@
 -- The kind first.
 use mathlib.Core.Path.{refl}
 use Rattle.apart.specs.Taking.{apart_told, apart_stored, apart_of, apart_after}
-use borrow.Author.Rules.{rules}
 use Rattle.apart.proofs.storing.take_apart.Goals as goal
 
 pub returns-in-Is : goal.returns-in-Is

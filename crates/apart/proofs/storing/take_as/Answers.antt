@@ -1,7 +1,6 @@
 -- Reading first, then the room; only then is anything stored.
 use mathlib.Core.Path.{ap}
 use native.Mathlib.Omega.{arith}
-use borrow.Author.Rules.{rules}
 use Rattle.kinds.specs.declared.of_files.Fixed.{Fixed}
 use Rattle.apart.proofs.Bodies.{bodies-within}
 use Rattle.apart.proofs.Stored.{told-read, told-8, told-good}

@@ -1,7 +1,6 @@
 -- What follows items 1 to 3 of the record, where there is one.
 use mathlib.Core.Path.{sym, ◌∙◌}
 use native.Mathlib.Omega.{arith}
-use borrow.Author.Rules.{rules}
 use Rattle.laws.specs.Part.{part}
 use Rattle.builder.proofs.Sizes.{body-size}
 use Rattle.writer.specs.Apart.{body_at}

@@ -1,6 +1,5 @@
 -- Item 3 of the header.
 use mathlib.Core.Path.{◌∙◌}
-use borrow.Author.Rules.{rules}
 use Rattle.writer.specs.Apart.{head_in}
 use Rattle.apart.proofs.taking.code.Goals as goal
 

@@ -1,6 +1,5 @@
 -- Item 5 of the header.
 use mathlib.Core.Path.{◌∙◌}
-use borrow.Author.Rules.{rules}
 use Rattle.writer.specs.Apart.{head_in}
 use Rattle.apart.proofs.taking.date.Goals as goal
 

@@ -1,7 +1,6 @@
 -- The first bytes of the file.
 use mathlib.Core.Path.{◌∙◌}
 use native.Mathlib.Nat.{zero-mul}
-use borrow.Author.Rules.{rules}
 use Rattle.records.specs.Records.{record_at}
 use Rattle.apart.proofs.taking.header.Goals as goal
 

@@ -1,6 +1,5 @@
 -- Item 6 of the header, as long as the kind has it.
 use mathlib.Core.Path.{◌∙◌}
-use borrow.Author.Rules.{rules}
 use Rattle.writer.specs.Apart.{head_in}
 use Rattle.apart.proofs.taking.item6.Goals as goal
 

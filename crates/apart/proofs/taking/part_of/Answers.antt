@@ -1,7 +1,6 @@
 -- What is left from its start on, cut where it is longer.
 use mathlib.Core.Path.{sym, ◌∙◌}
 use native.Mathlib.Omega.{arith}
-use borrow.Author.Rules.{rules}
 use lib.Seq.{take_all}
 use Rattle.laws.specs.Part.{part}
 use Rattle.apart.proofs.taking.part_of.Goals as goal
