@@ -4,7 +4,7 @@ use Prim.Native.Nat.{ℕ, ◌<◌}
 use mathlib.Core.List.{List, [], ◌∷◌}
 use mathlib.Core.Path.{◌≡◌, refl, ap}
 use lib.Dec.{ltb}
-use Rattle.laws.specs.Least.{least, some}
+use Rattle.laws.specs.Least.{some}
 use Rattle.laws.proofs.Leasts.{least-same}
 use Rattle.laws.proofs.Sums.{sum_same}
 use Rattle.keys.specs.Keys.{has_key_in}

@@ -1,5 +1,5 @@
 -- One turn of a pass over the board: what is asked of the memory that is lent for it, and what comes of each task.
-use Rattle.std.specs.Prelude.{ℕ, ◌+◌, ◌-◌, ◌*◌, ◌≤◌, ◌<◌, ◌^◌, Bool, true, cond, not, ◌&&◌, List, [], ◌≡◌, eqb, ltb, leb, length, get_or}
+use Rattle.std.specs.Prelude.{ℕ, ◌+◌, ◌-◌, ◌*◌, ◌≤◌, ◌<◌, ◌^◌, Bool, cond, not, ◌&&◌, List, [], ltb, leb, length, get_or}
 use Rattle.laws.specs.Tabulate.{tabulate}
 use Rattle.laws.specs.Stored.{stored}
 use Rattle.keys.specs.declared.stands.Spacing.{Spacing}
@@ -12,7 +12,7 @@ use Rattle.payers.specs.declared.turns.Task.{Task}
 use Rattle.payers.specs.declared.turns.Task.TheVariants.{Rest, Seek, Mark, Settle}
 use Rattle.payers.specs.declared.turns.Place.{Place}
 use Rattle.payers.specs.declared.turns.Turned.{Turned}
-use Rattle.payers.specs.Payers.{named, taken_from, member_after, over_number}
+use Rattle.payers.specs.Payers.{taken_from, member_after, over_number}
 
 -- how many payers are held at a time
 unfoldable pub held : ℕ

@@ -1,9 +1,9 @@
-//! Every public function of every crate has a contract of the form that the law `one-answer` speaks of: the answer is
+//! Every public function of every crate has a contract of the form that the law `one_answer` speaks of: the answer is
 //! `f` of the arguments, and so is what each lent list holds afterwards. So any two answers that it allows are equal.
 
 use std::path::{Path, PathBuf};
 
-/// Prints and returns nothing: what it reads and writes is the machine's (docs/DECISIONS.md).
+/// What they read and write is the machine's (docs/DECISIONS.md).
 const EXCEPTIONS: [&str; 2] = ["folder::posts::post", "words::input::read_full"];
 
 /// One public function: its path, its parameters with what it returns, and its `ensures` lines.

@@ -1,6 +1,5 @@
 -- By what was taken in all.
 use Rattle.payers.specs.Turns.{marked}
-use borrow.Author.Rules.{rules}
 use Rattle.payers.proofs.paying.mark.Goals as goal
 
 pub returns : goal.returns

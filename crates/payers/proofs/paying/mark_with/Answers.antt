@@ -1,11 +1,10 @@
 -- What all requests are marked with is what those below `at` are, over what is marked so far.
-use Rattle.payers.specs.Turns.{dues_key, marks_with}
-use Rattle.payers.proofs.Paid.{Own, own-last, own-inside, own_key, own-less, own-more, marks-start, marks-more, marks-end}
-use lib.ListN.{length, length-set}
-use mathlib.Core.Path.{◌≡◌, refl}
+use Rattle.payers.specs.Turns.{dues_key}
+use Rattle.payers.proofs.Paid.{own-last, own-inside, own_key, own-less, own-more, marks-start, marks-more, marks-end}
+use lib.ListN.{length-set}
+use mathlib.Core.Path.{refl}
 use native.Mathlib.Nat.{le_refl}
 use native.Mathlib.Omega.{arith}
-use borrow.Author.Rules.{rules}
 use Rattle.payers.proofs.paying.mark_with.Goals as goal
 
 pub last-at-requires : goal.last-at-requires

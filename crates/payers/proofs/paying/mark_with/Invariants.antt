@@ -1,11 +1,8 @@
 -- What all requests are marked with is what those below `at` are, over what is marked so far.
 use Rattle.payers.specs.Turns.{dues_key, marks_with}
-use Rattle.payers.proofs.Paid.{Own, own-last, own-inside, own_key, own-less, own-more, marks-start, marks-more, marks-end}
-use lib.ListN.{length, length-set}
-use mathlib.Core.Path.{◌≡◌, refl}
-use native.Mathlib.Nat.{le_refl}
-use native.Mathlib.Omega.{arith}
-use borrow.Author.Rules.{rules}
+use Rattle.payers.proofs.Paid.{Own}
+use lib.ListN.{length}
+use mathlib.Core.Path.{◌≡◌}
 use Rattle.payers.proofs.paying.mark_with.Given as goal
 
 abbrev pub invariant-loop-at : goal.invariant-loop-at

@@ -1,13 +1,8 @@
 -- What all requests give is what those from `at` on gave, and the rest.
-use Prim.Native.Nat.{◌+◌}
-use Rattle.laws.specs.Sum.{sum}
-use Rattle.payers.specs.Payers.{won_from, taken_from}
 use Rattle.payers.specs.Turns.{dues_key, listed}
-use Rattle.payers.proofs.Paid.{Own, own-last, own-inside, own_key, own-less, own-more, taken_start, taken_more, taken-small, taken-end}
-use mathlib.Core.Path.{◌≡◌}
+use Rattle.payers.proofs.Paid.{own-last, own-inside, own_key, own-less, own-more, taken_start, taken_more, taken-small, taken-end}
 use native.Mathlib.Nat.{le_refl}
 use native.Mathlib.Omega.{arith}
-use borrow.Author.Rules.{rules}
 use Rattle.payers.proofs.paying.owing.Goals as goal
 
 pub last-at-requires : goal.last-at-requires

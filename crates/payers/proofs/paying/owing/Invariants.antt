@@ -3,11 +3,8 @@ use Prim.Native.Nat.{◌+◌}
 use Rattle.laws.specs.Sum.{sum}
 use Rattle.payers.specs.Payers.{won_from, taken_from}
 use Rattle.payers.specs.Turns.{dues_key, listed}
-use Rattle.payers.proofs.Paid.{Own, own-last, own-inside, own_key, own-less, own-more, taken_start, taken_more, taken-small, taken-end}
+use Rattle.payers.proofs.Paid.{Own}
 use mathlib.Core.Path.{◌≡◌}
-use native.Mathlib.Nat.{le_refl}
-use native.Mathlib.Omega.{arith}
-use borrow.Author.Rules.{rules}
 use Rattle.payers.proofs.paying.owing.Given as goal
 
 abbrev pub invariant-loop-at : goal.invariant-loop-at

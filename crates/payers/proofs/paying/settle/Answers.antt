@@ -1,7 +1,6 @@
 -- By whether a request names the member.
 use Rattle.payers.specs.Turns.{dues_key, settled_by}
 use Rattle.payers.proofs.Paid.{member-other, member-named}
-use borrow.Author.Rules.{rules}
 use Rattle.payers.proofs.paying.settle.Goals as goal
 
 pub last-requires : goal.last-requires

@@ -1,6 +1,5 @@
 -- Not before the end; then by how many are left.
 use Rattle.payers.specs.Turns.{held, goes_on}
-use borrow.Author.Rules.{rules}
 use borrow.Author.Tests.{lt-ltb, le-ltb}
 use Rattle.payers.proofs.seeking.goes_on.Goals as goal
 

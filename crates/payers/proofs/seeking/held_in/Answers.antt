@@ -2,7 +2,6 @@
 use Rattle.payers.specs.Turns.{held}
 use Rattle.payers.proofs.Sought.{held_all, held-some}
 use mathlib.Core.Path.{sym}
-use borrow.Author.Rules.{rules}
 use Rattle.payers.proofs.seeking.held_in.Goals as goal
 
 pub returns-then-past-ge-HELD : goal.returns-then-past-ge-HELD

@@ -2,7 +2,6 @@
 use Rattle.keys.specs.Chains.{slots}
 use Rattle.payers.specs.Turns.{held}
 use native.Mathlib.Omega.{arith}
-use borrow.Author.Rules.{rules}
 use Rattle.payers.proofs.seeking.hold.Goals as goal
 
 pub join-requires : goal.join-requires

@@ -3,7 +3,6 @@ use Rattle.payers.specs.Turns.{held, holds, joined_links, sought_room}
 use Rattle.payers.proofs.Sought.{held-room}
 use mathlib.Core.Path.{refl, sym, ◌∙◌}
 use borrow.Author.Tests.{lt-ltb, le-ltb}
-use borrow.Author.Rules.{rules}
 use Rattle.payers.proofs.seeking.hold_new.Goals as goal
 
 pub returns-then-found : goal.returns-then-found

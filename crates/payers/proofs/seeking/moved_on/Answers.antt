@@ -1,5 +1,4 @@
 -- By whether the payer was found.
-use borrow.Author.Rules.{rules}
 use Rattle.payers.proofs.seeking.moved_on.Goals as goal
 
 pub returns-then-found : goal.returns-then-found

@@ -3,7 +3,6 @@ use Rattle.payers.specs.Turns.{held, next_in}
 use Rattle.payers.proofs.Sought.{goes-within}
 use mathlib.Core.Path.{refl, sym, ◌∙◌}
 use native.Mathlib.Omega.{arith}
-use borrow.Author.Rules.{rules}
 use Rattle.payers.proofs.seeking.next_in.Goals as goal
 
 pub overflow_add-from : goal.overflow_add-from

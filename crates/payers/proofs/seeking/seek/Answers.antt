@@ -3,7 +3,6 @@ use Rattle.payers.specs.Turns.{next_in, moved_on, sought_place, sought_links}
 use Rattle.payers.proofs.Sought.{moved_by, moved-within}
 use mathlib.Core.Bool.{Bool}
 use mathlib.Core.Path.{◌∙◌, ap}
-use borrow.Author.Rules.{rules}
 use Rattle.payers.proofs.seeking.seek.Goals as goal
 
 pub next_in-requires : goal.next_in-requires

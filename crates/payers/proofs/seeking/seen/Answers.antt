@@ -1,7 +1,6 @@
 -- Found, if there is a last one.
 use Rattle.payers.specs.Turns.{held_key, seen}
 use Rattle.payers.proofs.Sought.{held-inside}
-use borrow.Author.Rules.{rules}
 use Rattle.payers.proofs.seeking.seen.Goals as goal
 
 pub last-requires : goal.last-requires

@@ -1,6 +1,5 @@
 -- By whether there is such a member.
 use Rattle.laws.specs.Least.{number_in}
-use borrow.Author.Rules.{rules}
 use borrow.Author.Tests.{lt-ltb, le-ltb}
 use Rattle.payers.proofs.turns.number_in.Goals as goal
 

@@ -1,5 +1,4 @@
 -- One place for each task.
-use borrow.Author.Rules.{rules}
 use Rattle.payers.proofs.turns.start.Goals as goal
 
 pub returns-in-Rest : goal.returns-in-Rest

@@ -1,6 +1,5 @@
 -- One call for each task.
 use mathlib.Core.Path.{refl}
-use borrow.Author.Rules.{rules}
 use Rattle.payers.proofs.turns.turn.Goals as goal
 
 pub seek-next-requires : goal.seek-next-requires
