@@ -1,6 +1,6 @@
 -- The requests of an accepted debit pair: their payers, their dates, and how much may be taken of each.
 -- Assumes nothing.
-use Prim.Native.Nat.{ℕ, ◌+◌, ◌-◌, ◌*◌, ◌≤◌, ◌<◌, ◌^◌}
+use Prim.Native.Nat.{ℕ, ◌+◌, ◌*◌, ◌≤◌, ◌<◌, ◌^◌}
 use mathlib.Core.List.{List, [], ◌++◌}
 use mathlib.Core.Path.{◌≡◌, sym, ◌∙◌, ap}
 use mathlib.Core.Logic.{⊎_elim}
@@ -16,15 +16,14 @@ use Rattle.numbers.specs.Numbers.{value_of}
 use Rattle.numbers.proofs.Values.{value-within}
 use Rattle.kinds.specs.Kinds.{limit, fixed_of}
 use Rattle.kinds.specs.declared.of_pairs.PairKind.{PairKind}
-use Rattle.kinds.specs.declared.of_pairs.Family.TheVariants.{Debit}
 use Rattle.kinds.specs.Pairs.{request_kind}
 use Rattle.layout.specs.Items.{amount_of}
-use Rattle.records.specs.Records.{record_at, record_of, count_of, data_of}
+use Rattle.records.specs.Records.{record_at, count_of, data_of}
 use Rattle.records.specs.Quantities.{worth, worth_at}
 use Rattle.records.proofs.Places.{record-inside}
 use Rattle.keys.specs.Stands.{Inside}
 use Rattle.keys.proofs.Spaced.{spaced-start, spaced-key}
-use Rattle.matching.specs.Amounts.{asked_at, not_taken_at, taken_at}
+use Rattle.matching.specs.Amounts.{asked_at, taken_at}
 use Rattle.pair.proofs.Matched.{pair-known}
 use Rattle.dues.specs.Posting.{payer_at, same_day, date_start, day_of, dates_as}
 use Rattle.payers.specs.Turns.{payer_spacing, dues_key}

@@ -1,18 +1,18 @@
 -- From one pass over the board to the next: what is known before the first, what each of them is to do, and what is told at the end.
-use Rattle.std.specs.Prelude.{ℕ, ◌+◌, ◌≤◌, Bool, cond, not, ◌&&◌, List, [], ◌++◌, eqb, length, get_or, drop}
+use Rattle.std.specs.Prelude.{ℕ, ◌+◌, ◌≤◌, cond, List, [], ◌++◌, length, get_or, drop}
 use Rattle.laws.specs.Tabulate.{tabulate}
 use Rattle.kinds.specs.declared.of_pairs.PairNamed.{PairNamed}
 use Rattle.kinds.specs.declared.of_pairs.PairNamed.TheVariants.{Is, Unknown}
 use Rattle.kinds.specs.Pairs.{request_kind, pair_of}
 use Rattle.answers.specs.declared.told.Answer.{Answer}
-use Rattle.answers.specs.Answers.{accepted, refuses, first_told, ◌then◌}
+use Rattle.answers.specs.Answers.{refuses, first_told, ◌then◌}
 use Rattle.records.specs.Records.{data_of}
 use Rattle.matching.specs.Amounts.{taken_at}
 use Rattle.keys.specs.Stands.{Inside}
 use Rattle.keys.specs.Chains.{slots, links_of}
 use Rattle.payers.specs.declared.members.Member.{Member}
 use Rattle.payers.specs.declared.turns.Task.{Task}
-use Rattle.payers.specs.declared.turns.Task.TheVariants.{Rest, Seek, Mark, Settle}
+use Rattle.payers.specs.declared.turns.Task.TheVariants.{Rest, Mark, Settle}
 use Rattle.dues.specs.declared.ready.Ready.{Ready}
 use Rattle.dues.specs.declared.steps.Step.{Step}
 use Rattle.dues.specs.declared.steps.Posted.{Posted}

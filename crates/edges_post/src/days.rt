@@ -1,6 +1,6 @@
 // The two files of a day, laid into the folder.
 use std::fs::{Files, OpenFile, Permissions};
-use std::io::{ErrorKind, Write};
+use std::io::Write;
 use std::os::unix::fs::PermissionsExt;
 use std::{fs, io};
 use text::parts;
@@ -16,9 +16,8 @@ const SHUT: u32 = 0;
 
 // Copies the first bytes of a file, with zeros past its end.
 fn copy(rt: &impl Files, from: &[u8], bytes: usize, name: &str, mode: u32) -> io::Result<()> {
-    let Ok(from) = str::from_utf8(from) else {
-        return Err(io::Error::from(ErrorKind::InvalidFilename));
-    };
+    // A name that is no text names no file, and none is opened.
+    let from = str::from_utf8(from).unwrap_or("");
     let mut file = [0u8; ROOM];
     input::read_full(&mut fs::open(rt, from)?, &mut file);
     let mut made = fs::create(rt, name)?;

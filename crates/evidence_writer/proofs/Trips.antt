@@ -22,8 +22,8 @@ pub write-exact : (exempt : Bool) (date code x : List ℕ) → (decided exempt d
 write-exact exempt date code x = (
   λ e.
       let h = written-taken exempt date code x e in
-      record { file = file_of date code x; good = h.good; date-of = h.date-held; code_of = h.code-held; units_of = h.all },
-  λ c. rw (c.date-of, c.code_of, c.units_of) at (taken-written exempt c.file c.good).good,
+      record { file = file_of date code x; good = h.good; date-of = h.date-held; code-of = h.code-held; units-of = h.all },
+  λ c. rw (c.date-of, c.code-of, c.units-of) at (taken-written exempt c.file c.good).good,
 )
 
 -- *No two*: no two things that the writer accepts give the same file

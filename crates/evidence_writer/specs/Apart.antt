@@ -45,5 +45,5 @@ pub record Came (exempt : Bool) (date code x : List ℕ) : Type 0 where
   pub file : List ℕ
   pub good : read_of exempt file ≡ accepted
   pub date-of : date_in file ≡ date
-  pub code_of : code_in file ≡ code
-  pub units_of : units_of file ≡ x
+  pub code-of : code_in file ≡ code
+  pub units-of : units_of file ≡ x

@@ -4,7 +4,6 @@ use Rattle.answers.proofs.Refusals.{number_of}
 use Rattle.evidence.proofs.Looked.{read-good, read_all, read-keys, records-few, place_at, first-inside}
 use Rattle.evidence.specs.declared.reading.Looked.{Looked}
 use Rattle.consent.proofs.Stages.{by-enrolments, by-evidence, by-headers, by-records, header-there, block-there}
-use borrow.Author.Rules.{rules}
 use Rattle.consent.proofs.comparing.compare.Goals as goal
 
 pub returns-then-of_enrolments-ne0 : goal.returns-then-of_enrolments-ne0

@@ -10,7 +10,6 @@ use Rattle.evidence.specs.Blocks.{records_in}
 use Rattle.consent.specs.Comparing.{is_new}
 use Rattle.consent.specs.Marks.{found_for}
 use Rattle.consent.proofs.Marked.{found-by, old-told, old-marked, found-told, found-marked, lacks-told, lacks-marked}
-use borrow.Author.Rules.{rules}
 use Rattle.consent.proofs.evidenced.enrolment_tells.Goals as goal
 
 pub overflow_add-i : goal.overflow_add-i

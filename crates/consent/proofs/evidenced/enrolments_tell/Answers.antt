@@ -1,17 +1,14 @@
 -- The loop goes on until an enrolment lacks its evidence.
 use mathlib.Core.Path.{◌≡◌, refl, sym, ◌∙◌}
 use native.Mathlib.Omega.{arith}
-use Prim.Native.Nat.{◌-◌, ◌≤◌, ◌<◌}
+use Prim.Native.Nat.{◌<◌}
 use native.Mathlib.Nat.{le_antisymm}
-use lib.ListN.{length}
 use Rattle.laws.proofs.Leasts.{least_start}
 use Rattle.answers.proofs.Refusals.{So-far, told_more, told-stop, told-end}
 use Rattle.kinds.specs.Kinds.{EB13}
 use Rattle.records.specs.Records.{data_of}
 use Rattle.consent.specs.Comparing.{lacks_told}
-use Rattle.consent.specs.Marks.{marked_to}
 use Rattle.consent.proofs.Marked.{refused-marked, marked-length, marked_more, marked_start, good-stop, good-end}
-use borrow.Author.Rules.{rules}
 use Rattle.consent.proofs.evidenced.enrolments_tell.Goals as goal
 
 pub loop-i-init : goal.loop-i-init

@@ -1,17 +1,12 @@
 -- The loop goes on until an enrolment lacks its evidence.
-use mathlib.Core.Path.{◌≡◌, refl, sym, ◌∙◌}
-use native.Mathlib.Omega.{arith}
-use Prim.Native.Nat.{◌-◌, ◌≤◌, ◌<◌}
-use native.Mathlib.Nat.{le_antisymm}
+use mathlib.Core.Path.{◌≡◌}
+use Prim.Native.Nat.{◌-◌, ◌≤◌}
 use lib.ListN.{length}
-use Rattle.laws.proofs.Leasts.{least_start}
-use Rattle.answers.proofs.Refusals.{So-far, told_more, told-stop, told-end}
+use Rattle.answers.proofs.Refusals.{So-far}
 use Rattle.kinds.specs.Kinds.{EB13}
 use Rattle.records.specs.Records.{data_of}
 use Rattle.consent.specs.Comparing.{lacks_told}
 use Rattle.consent.specs.Marks.{marked_to}
-use Rattle.consent.proofs.Marked.{refused-marked, marked-length, marked_more, marked_start, good-stop, good-end}
-use borrow.Author.Rules.{rules}
 use Rattle.consent.proofs.evidenced.enrolments_tell.Given as goal
 
 abbrev pub invariant-loop-i : goal.invariant-loop-i

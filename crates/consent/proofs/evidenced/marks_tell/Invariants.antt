@@ -1,14 +1,7 @@
 -- The loop looks for the first that has no mark.
-use mathlib.Core.Path.{◌≡◌, sym, ◌∙◌}
-use native.Mathlib.Omega.{arith}
-use Prim.Native.Nat.{◌+◌, ◌≤◌, ◌-◌}
-use native.Mathlib.Nat.{le_antisymm}
-use borrow.Author.Tests.{eq-eqb, ne_eqb}
-use Rattle.laws.proofs.Leasts.{least_start}
-use Rattle.answers.proofs.Refusals.{So-far, number_of, told_more, told-stop, told-end}
-use Rattle.answers.specs.Answers.{accepted, refused_at}
+use Prim.Native.Nat.{◌≤◌, ◌-◌}
+use Rattle.answers.proofs.Refusals.{So-far}
 use Rattle.consent.specs.Marks.{unmarked_told}
-use borrow.Author.Rules.{rules}
 use Rattle.consent.proofs.evidenced.marks_tell.Given as goal
 
 abbrev pub invariant-loop-j : goal.invariant-loop-j

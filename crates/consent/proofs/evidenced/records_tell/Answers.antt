@@ -14,7 +14,6 @@ use Rattle.evidence.specs.Blocks.{records_in}
 use Rattle.consent.specs.Comparing.{lacks_told, foreign_told}
 use Rattle.consent.specs.Marks.{unmarked_told}
 use Rattle.consent.proofs.Marked.{good-all, marked-told}
-use borrow.Author.Rules.{rules}
 use Rattle.consent.proofs.evidenced.records_tell.Goals as goal
 
 pub chain-requires : goal.chain-requires

@@ -4,7 +4,6 @@ use Rattle.laws.proofs.Parts.{part_length}
 use Rattle.laws.specs.Part.{part}
 use Rattle.consent.specs.Comparing.{long_date, asked_by}
 use Rattle.consent.proofs.Asked.{pieces}
-use borrow.Author.Rules.{rules}
 use Rattle.consent.proofs.headers.asked.Goals as goal
 
 pub returns : goal.returns

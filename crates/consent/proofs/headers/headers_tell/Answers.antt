@@ -1,7 +1,6 @@
 -- The codes, then the dates.
 use mathlib.Core.Path.{sym, ◌∙◌}
 use Rattle.consent.specs.Comparing.{headers_told}
-use borrow.Author.Rules.{rules}
 use Rattle.consent.proofs.headers.headers_tell.Goals as goal
 
 pub returns-then-same-2 : goal.returns-then-same-2

@@ -1,7 +1,6 @@
 -- "20" and the six digits.
 use mathlib.Core.Path.{◌∙◌}
 use Rattle.consent.proofs.Asked.{long-stored}
-use borrow.Author.Rules.{rules}
 use Rattle.consent.proofs.headers.long_date.Goals as goal
 
 pub returns : goal.returns

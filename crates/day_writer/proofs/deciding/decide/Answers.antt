@@ -2,7 +2,6 @@
 use mathlib.Core.Path.{sym, ◌∙◌}
 use native.Mathlib.Nat.{le_refl}
 use Rattle.day_writer.proofs.Decides.{good-given, names-inside, decided-30, decided-by}
-use borrow.Author.Rules.{rules}
 use Rattle.day_writer.proofs.deciding.decide.Goals as goal
 
 pub list_tells-requires : goal.list_tells-requires

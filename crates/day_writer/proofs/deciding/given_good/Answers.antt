@@ -1,6 +1,5 @@
 -- Names, then lengths.
 use Rattle.day_writer.specs.Writing.{given_good}
-use borrow.Author.Rules.{rules}
 use Rattle.day_writer.proofs.deciding.given_good.Goals as goal
 
 pub returns-then-names_good : goal.returns-then-names_good

@@ -1,14 +1,11 @@
 -- One length after the other.
-use Prim.Native.Nat.{◌-◌, ◌≤◌}
 use mathlib.Core.Path.{◌≡◌, sym}
 use native.Mathlib.Omega.{arith}
 use borrow.Author.Tests.{le-leb, lt-leb}
 use lib.ListN.{length}
-use Rattle.laws.specs.Least.{least}
 use Rattle.laws.proofs.Leasts.{least_start, least_more, none_true, none-false}
 use Rattle.day.specs.Bodies.{size_at}
 use Rattle.day_writer.specs.Writing.{too_long}
-use borrow.Author.Rules.{rules}
 use Rattle.day_writer.proofs.deciding.lengths_good.Goals as goal
 
 pub loop-i-init : goal.loop-i-init

@@ -1,14 +1,9 @@
 -- One length after the other.
 use Prim.Native.Nat.{◌-◌, ◌≤◌}
-use mathlib.Core.Path.{◌≡◌, sym}
-use native.Mathlib.Omega.{arith}
-use borrow.Author.Tests.{le-leb, lt-leb}
+use mathlib.Core.Path.{◌≡◌}
 use lib.ListN.{length}
 use Rattle.laws.specs.Least.{least}
-use Rattle.laws.proofs.Leasts.{least_start, least_more, none_true, none-false}
-use Rattle.day.specs.Bodies.{size_at}
 use Rattle.day_writer.specs.Writing.{too_long}
-use borrow.Author.Rules.{rules}
 use Rattle.day_writer.proofs.deciding.lengths_good.Given as goal
 
 abbrev pub invariant-loop-i : goal.invariant-loop-i

@@ -1,7 +1,6 @@
 -- Both tests, in their order.
 use borrow.Author.Tests.{le-leb, lt-leb}
 use Rattle.day_writer.specs.Writing.{names_good}
-use borrow.Author.Rules.{rules}
 use Rattle.day_writer.proofs.deciding.names_good.Goals as goal
 
 pub returns-then-n-le-MOST : goal.returns-then-n-le-MOST

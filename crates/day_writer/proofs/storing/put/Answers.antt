@@ -1,7 +1,7 @@
 -- The form, the count, the entries, the bodies.
-use Prim.Native.Nat.{◌+◌, ◌*◌, ◌≤◌, zero-le}
+use Prim.Native.Nat.{◌*◌, zero-le}
 use mathlib.Core.List.{[], ◌∷◌, ◌++◌}
-use mathlib.Core.Path.{◌≡◌, refl, ◌∙◌, ap}
+use mathlib.Core.Path.{refl, ◌∙◌, ap}
 use native.Mathlib.Omega.{arith}
 use lib.ListN.{length}
 use Rattle.laws.specs.Joined.{joined}

@@ -1,10 +1,9 @@
 -- One entry behind the other.
-use Prim.Native.Nat.{◌-◌, ◌*◌, ◌≤◌}
+use Prim.Native.Nat.{◌*◌}
 use mathlib.Core.Path.{◌≡◌, refl}
 use native.Mathlib.Omega.{arith}
 use lib.ListN.{length}
 use Rattle.laws.specs.Joined.{joined}
-use Rattle.laws.specs.Stored.{stored}
 use Rattle.laws.proofs.Joins.{joined-start, joined-more}
 use Rattle.laws.proofs.Parts.{part_length}
 use Rattle.laws.proofs.Stores.{stored-then, stored-none}

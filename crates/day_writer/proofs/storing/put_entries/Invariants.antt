@@ -1,20 +1,13 @@
 -- One entry behind the other.
-use Prim.Native.Nat.{◌-◌, ◌*◌, ◌≤◌}
-use mathlib.Core.Path.{◌≡◌, refl}
-use native.Mathlib.Omega.{arith}
+use Prim.Native.Nat.{◌-◌, ◌≤◌}
+use mathlib.Core.Path.{◌≡◌}
 use lib.ListN.{length}
 use Rattle.laws.specs.Joined.{joined}
 use Rattle.laws.specs.Stored.{stored}
-use Rattle.laws.proofs.Joins.{joined-start, joined-more}
-use Rattle.laws.proofs.Parts.{part_length}
-use Rattle.laws.proofs.Stores.{stored-then, stored-none}
-use Rattle.day.specs.Contents.{front, entry_at}
+use Rattle.day.specs.Contents.{front}
 use Rattle.day.specs.Bodies.{size_at}
 use Rattle.day.specs.Meets.{entry_of}
-use Rattle.day.proofs.Forms.{entry_next}
-use Rattle.day.proofs.Filed.{entries-long}
 use Rattle.day_writer.specs.Writing.{name_of}
-use borrow.Author.Rules.{rules}
 use Rattle.day_writer.proofs.storing.put_entries.Given as goal
 
 abbrev pub invariant-loop-i : goal.invariant-loop-i

@@ -8,7 +8,6 @@ use Rattle.day.specs.Contents.{entry_at}
 use Rattle.day.specs.Bodies.{size_at}
 use Rattle.day.specs.Meets.{entry_of}
 use Rattle.day_writer.specs.Writing.{name_of}
-use borrow.Author.Rules.{rules}
 use Rattle.day_writer.proofs.storing.put_entry.Goals as goal
 
 pub returns : goal.returns

@@ -8,7 +8,6 @@ use Rattle.day.proofs.Forms.{entries-small}
 use Rattle.day_writer.specs.Writing.{decided}
 use Rattle.day_writer.proofs.Decides.{decided-given, decided-listed, listed-decided, bodies-few}
 use Rattle.day_writer.proofs.Stored.{for-long, told-decided, told-8, told-good, write-refused, write-good}
-use borrow.Author.Rules.{rules}
 use Rattle.day_writer.proofs.writing.write.Goals as goal
 
 pub returns-then-answer-ne0 : goal.returns-then-answer-ne0

@@ -1,6 +1,5 @@
 -- The date is held to the last of its sort.
 use Rattle.dues.specs.Posting.{date_tells, last_posted}
-use borrow.Author.Rules.{rules}
 use Rattle.dues.proofs.ready.date_tells.Goals as goal
 
 pub returns-then-later : goal.returns-then-later

@@ -1,7 +1,6 @@
 -- The date is stored where the last of its sort stands.
 use Rattle.dues.specs.Posting.{dates_as}
 use mathlib.Core.Path.{◌∙◌}
-use borrow.Author.Rules.{rules}
 use Rattle.dues.proofs.ready.dates_after.Goals as goal
 
 pub returns : goal.returns

@@ -3,7 +3,6 @@ use Rattle.dues.specs.Posting.{day_of}
 use Rattle.tables.proofs.Tiling.{size-least}
 use native.Mathlib.Omega.{arith}
 use mathlib.Core.Path.{◌∙◌}
-use borrow.Author.Rules.{rules}
 use Rattle.dues.proofs.ready.day.Goals as goal
 
 pub record_of-header-requires : goal.record_of-header-requires

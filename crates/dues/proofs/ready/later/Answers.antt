@@ -1,12 +1,8 @@
 -- The loop goes to the first place that differs.
-use Prim.Native.Nat.{◌≤◌, ◌-◌}
 use Rattle.laws.proofs.Leasts.{least_start}
 use Rattle.laws.proofs.Parts.{same_more}
-use Rattle.laws.specs.Least.{least}
-use Rattle.laws.specs.Part.{differ}
 use Rattle.dues.proofs.Dates.{later-stop, later-end}
-use lib.ListN.{length}
-use mathlib.Core.Path.{◌≡◌, sym, ◌∙◌}
+use mathlib.Core.Path.{sym, ◌∙◌}
 use native.Mathlib.Nat.{le_antisymm}
 use borrow.Author.Rules.{rules}
 use Rattle.dues.proofs.ready.later.Goals as goal

@@ -5,7 +5,6 @@ use Rattle.answers.proofs.Refusals.{number_of}
 use mathlib.Core.Bool.{true}
 use mathlib.Core.Path.{sym, ◌∙◌}
 use native.Mathlib.Omega.{arith}
-use borrow.Author.Rules.{rules}
 use Rattle.dues.proofs.ready.ready_as.Goals as goal
 
 pub returns-then-answer-ne0 : goal.returns-then-answer-ne0

@@ -2,7 +2,6 @@
 use Rattle.dues.proofs.Readied.{ready-enrolment, ready_refused, ready-kept}
 use native.Mathlib.Omega.{arith}
 use mathlib.Core.Path.{◌∙◌}
-use borrow.Author.Rules.{rules}
 use Rattle.dues.proofs.ready.ready_in.Goals as goal
 
 pub returns-in-Enrolment : goal.returns-in-Enrolment

@@ -2,7 +2,6 @@
 use Rattle.dues.proofs.Readied.{ready-unknown, ready_refused, ready-kept}
 use native.Mathlib.Omega.{arith}
 use mathlib.Core.Path.{sym, ◌∙◌}
-use borrow.Author.Rules.{rules}
 use Rattle.dues.proofs.ready.ready_of.Goals as goal
 
 pub returns-in-Is : goal.returns-in-Is

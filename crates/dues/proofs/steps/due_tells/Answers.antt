@@ -1,7 +1,6 @@
 -- By the mark.
 use Rattle.payers.specs.Payers.{due_tells}
 use borrow.Author.Tests.{eq-eqb, ne_eqb}
-use borrow.Author.Rules.{rules}
 use Rattle.dues.proofs.steps.due_tells.Goals as goal
 
 pub returns-then-number-eq0 : goal.returns-then-number-eq0

@@ -1,11 +1,8 @@
 -- The room is filled from the front.
-use Prim.Native.Nat.{◌≤◌, ◌-◌}
 use Rattle.laws.proofs.Tabs.{fill_start, fill_more}
-use Rattle.laws.specs.Tabulate.{tabulate}
 use Rattle.dues.specs.Steps.{unmet}
-use lib.ListN.{length, drop, length-set}
-use mathlib.Core.List.{◌++◌}
-use mathlib.Core.Path.{◌≡◌, refl}
+use lib.ListN.{length-set}
+use mathlib.Core.Path.{refl}
 use native.Mathlib.Nat.{le_antisymm}
 use native.Mathlib.Omega.{arith}
 use borrow.Author.Rules.{rules}

@@ -1,14 +1,10 @@
 -- The room is filled from the front.
 use Prim.Native.Nat.{◌≤◌, ◌-◌}
-use Rattle.laws.proofs.Tabs.{fill_start, fill_more}
 use Rattle.laws.specs.Tabulate.{tabulate}
 use Rattle.dues.specs.Steps.{unmet}
-use lib.ListN.{length, drop, length-set}
+use lib.ListN.{length, drop}
 use mathlib.Core.List.{◌++◌}
-use mathlib.Core.Path.{◌≡◌, refl}
-use native.Mathlib.Nat.{le_antisymm}
-use native.Mathlib.Omega.{arith}
-use borrow.Author.Rules.{rules}
+use mathlib.Core.Path.{◌≡◌}
 use Rattle.dues.proofs.steps.mark_unmet.Given as goal
 
 abbrev pub invariant-loop-i : goal.invariant-loop-i

@@ -4,7 +4,6 @@ use Rattle.payers.specs.Turns.{dues_key}
 use Rattle.keys.proofs.Chained.{none-length, none-cleared, links-cleared}
 use Rattle.answers.proofs.Refusals.{refuses-is, refuses-not}
 use mathlib.Core.Path.{refl, ◌∙◌}
-use borrow.Author.Rules.{rules}
 use Rattle.dues.proofs.steps.marking.Goals as goal
 
 pub returns-then-told-ne0 : goal.returns-then-told-ne0

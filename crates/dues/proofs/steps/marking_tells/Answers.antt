@@ -2,7 +2,6 @@
 use Rattle.dues.specs.Steps.{marking_tells}
 use Rattle.answers.proofs.Refusals.{then-first, then-second}
 use mathlib.Core.Path.{sym}
-use borrow.Author.Rules.{rules}
 use Rattle.dues.proofs.steps.marking_tells.Goals as goal
 
 pub returns-then-told-ne0 : goal.returns-then-told-ne0

@@ -1,9 +1,8 @@
 -- The loop looks for the first mark that tells something.
-use Prim.Native.Nat.{◌≤◌, ◌-◌}
 use Rattle.laws.proofs.Leasts.{least_start}
-use Rattle.answers.proofs.Refusals.{So-far, told_more, told-stop, told-end}
+use Rattle.answers.proofs.Refusals.{told_more, told-stop, told-end}
 use Rattle.dues.specs.Steps.{mark_tells}
-use mathlib.Core.Path.{◌≡◌, sym}
+use mathlib.Core.Path.{sym}
 use native.Mathlib.Nat.{le_antisymm}
 use borrow.Author.Rules.{rules}
 use Rattle.dues.proofs.steps.marks_tell.Goals as goal

@@ -1,6 +1,5 @@
 -- By the number.
 use Rattle.payers.specs.Members.{repeat_tells}
-use borrow.Author.Rules.{rules}
 use borrow.Author.Tests.{eq-eqb, ne_eqb}
 use Rattle.dues.proofs.steps.repeat_tells.Goals as goal
 

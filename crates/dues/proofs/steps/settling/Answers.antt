@@ -1,7 +1,6 @@
 -- The task follows the answer.
 use Rattle.dues.specs.Steps.{unless, settling_of}
 use Rattle.answers.proofs.Refusals.{refuses-is, refuses-not}
-use borrow.Author.Rules.{rules}
 use Rattle.dues.proofs.steps.settling.Goals as goal
 
 pub returns-then-told-ne0 : goal.returns-then-told-ne0

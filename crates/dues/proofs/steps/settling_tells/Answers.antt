@@ -2,7 +2,6 @@
 use Rattle.dues.specs.Steps.{settling_tells}
 use Rattle.answers.proofs.Refusals.{then-first, then-second}
 use mathlib.Core.Path.{sym, ◌∙◌}
-use borrow.Author.Rules.{rules}
 use Rattle.dues.proofs.steps.settling_tells.Goals as goal
 
 pub returns-then-answer-ne0 : goal.returns-then-answer-ne0

@@ -1,12 +1,9 @@
 -- The list is filled from the front.
-use Prim.Native.Nat.{◌≤◌, ◌-◌}
 use Rattle.laws.proofs.Tabs.{fill_start, fill_more}
-use Rattle.laws.specs.Tabulate.{tabulate}
 use Rattle.matching.proofs.Found.{left-of, result_fits}
 use Rattle.matching.specs.Amounts.{taken_at}
-use lib.ListN.{length, drop, length-set}
-use mathlib.Core.List.{◌++◌}
-use mathlib.Core.Path.{◌≡◌, refl, ◌∙◌}
+use lib.ListN.{length-set}
+use mathlib.Core.Path.{refl, ◌∙◌}
 use native.Mathlib.Nat.{le_antisymm}
 use native.Mathlib.Omega.{arith}
 use borrow.Author.Rules.{rules}

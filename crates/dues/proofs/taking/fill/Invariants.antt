@@ -1,15 +1,10 @@
 -- The list is filled from the front.
 use Prim.Native.Nat.{◌≤◌, ◌-◌}
-use Rattle.laws.proofs.Tabs.{fill_start, fill_more}
 use Rattle.laws.specs.Tabulate.{tabulate}
-use Rattle.matching.proofs.Found.{left-of, result_fits}
 use Rattle.matching.specs.Amounts.{taken_at}
-use lib.ListN.{length, drop, length-set}
+use lib.ListN.{length, drop}
 use mathlib.Core.List.{◌++◌}
-use mathlib.Core.Path.{◌≡◌, refl, ◌∙◌}
-use native.Mathlib.Nat.{le_antisymm}
-use native.Mathlib.Omega.{arith}
-use borrow.Author.Rules.{rules}
+use mathlib.Core.Path.{◌≡◌}
 use Rattle.dues.proofs.taking.fill.Given as goal
 
 abbrev pub invariant-loop-i : goal.invariant-loop-i

@@ -4,7 +4,6 @@ use Rattle.agreement.specs.Marks.{mark_in, code_in}
 use Rattle.outcomes.specs.Outcomes.{failed_by}
 use borrow.Author.Tests.{eq-eqb, ne_eqb}
 use native.Mathlib.Omega.{arith}
-use borrow.Author.Rules.{rules}
 use Rattle.outcomes.proofs.asking.failed_by.Goals as goal
 
 pub overflow_add-mark : goal.overflow_add-mark

@@ -1,5 +1,4 @@
 -- By the result's kind.
-use borrow.Author.Rules.{rules}
 use Rattle.outcomes.proofs.asking.mark_start.Goals as goal
 
 pub returns : goal.returns

@@ -1,6 +1,5 @@
 -- The pair kind first.
 use Rattle.outcomes.specs.Outcomes.{outcome_told}
-use borrow.Author.Rules.{rules}
 use Rattle.outcomes.proofs.asking.outcome.Goals as goal
 
 pub returns-in-Is : goal.returns-in-Is

@@ -6,7 +6,6 @@ use Rattle.outcomes.specs.Outcomes.{outcome_as}
 use Prim.Native.Nat.{◌-◌}
 use mathlib.Core.Path.{sym, ◌∙◌}
 use native.Mathlib.Omega.{arith}
-use borrow.Author.Rules.{rules}
 use Rattle.outcomes.proofs.asking.outcome_as.Goals as goal
 
 pub returns-then-answer-ne0 : goal.returns-then-answer-ne0

@@ -4,7 +4,6 @@ use Rattle.matching.specs.Amounts.{taken_at, not_taken_at}
 use Rattle.tables.proofs.Tiling.{size-least}
 use borrow.Author.Tests.{lt-ltb, le-ltb}
 use native.Mathlib.Omega.{arith}
-use borrow.Author.Rules.{rules}
 use Rattle.outcomes.proofs.asking.outcome_at.Goals as goal
 
 pub record_of-requires : goal.record_of-requires

@@ -1,5 +1,4 @@
 -- Case by case.
-use borrow.Author.Rules.{rules}
 use Rattle.outcomes.proofs.cases.maker_in.Goals as goal
 
 pub returns-in-Part : goal.returns-in-Part

@@ -1,5 +1,4 @@
 -- Case by case.
-use borrow.Author.Rules.{rules}
 use Rattle.outcomes.proofs.cases.numbers.Goals as goal
 
 pub returns-in-None : goal.returns-in-None

@@ -1,13 +1,9 @@
 -- Three sums so far.
-use Prim.Native.Nat.{◌≤◌, ◌-◌, ◌*◌, ◌^◌}
 use Rattle.laws.proofs.Sums.{sum-start, sum_more}
-use Rattle.laws.specs.Sum
 use Rattle.matching.proofs.Found.{left-of, results-length}
-use Rattle.matching.specs.Amounts.{asked_at, taken_at, not_taken_at}
-use Rattle.kinds.specs.Pairs.{request_kind}
+use Rattle.matching.specs.Amounts.{taken_at}
 use Rattle.outcomes.specs.Sums.{sums_of}
-use Rattle.records.specs.Records.{data_of}
-use mathlib.Core.Path.{◌≡◌, sym, ◌∙◌}
+use mathlib.Core.Path.{sym, ◌∙◌}
 use native.Mathlib.Nat.{le_antisymm}
 use native.Mathlib.Omega.{arith}
 use borrow.Author.Rules.{rules}

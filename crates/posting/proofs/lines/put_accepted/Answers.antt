@@ -2,7 +2,6 @@
 use Rattle.posting.proofs.Following.{put, put_then}
 use Rattle.posting.specs.Lines.{number_then, accepted_word, accepted_line}
 use native.Mathlib.Omega.{arith}
-use borrow.Author.Rules.{rules}
 use Rattle.posting.proofs.lines.put_accepted.Goals as goal
 
 pub returns : goal.returns

@@ -1,7 +1,6 @@
 -- By the maker.
 use Rattle.posting.specs.Lines.{none_end, bank_end, centre_end}
 use native.Mathlib.Omega.{arith}
-use borrow.Author.Rules.{rules}
 use Rattle.posting.proofs.lines.put_maker.Goals as goal
 
 pub returns-in-None : goal.returns-in-None

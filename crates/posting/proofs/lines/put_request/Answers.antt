@@ -3,7 +3,6 @@ use lib.ListN.{get_or}
 use Rattle.posting.proofs.Following.{put, put_then}
 use Rattle.posting.specs.Lines.{number_then, code_then, word_for, maker_end, request_line}
 use native.Mathlib.Omega.{arith}
-use borrow.Author.Rules.{rules}
 use Rattle.posting.proofs.lines.put_request.Goals as goal
 
 pub returns : goal.returns

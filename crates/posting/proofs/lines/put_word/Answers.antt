@@ -3,7 +3,6 @@ use Rattle.posting.proofs.Following.{put-none}
 use Rattle.posting.specs.Lines.{whole_word, part_word, refused_word}
 use mathlib.Core.Path.{sym}
 use native.Mathlib.Omega.{arith}
-use borrow.Author.Rules.{rules}
 use Rattle.posting.proofs.lines.put_word.Goals as goal
 
 pub returns-in-None : goal.returns-in-None

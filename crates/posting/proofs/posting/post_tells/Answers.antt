@@ -1,7 +1,6 @@
 -- One stage after the other.
 use Rattle.posting.proofs.Posted.{by-request-size, by-result-size, by-pair}
 use mathlib.Core.Path.{sym, ◌∙◌}
-use borrow.Author.Rules.{rules}
 use Rattle.posting.proofs.posting.post_tells.Goals as goal
 
 pub returns-then-of_request-ne0 : goal.returns-then-of_request-ne0

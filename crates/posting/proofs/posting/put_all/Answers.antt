@@ -8,7 +8,6 @@ use Rattle.posting.specs.Posting.{line_at, accepted_text}
 use mathlib.Core.Path.{◌∙◌}
 use native.Mathlib.Nat.{zero-add}
 use native.Mathlib.Omega.{arith}
-use borrow.Author.Rules.{rules}
 use Rattle.posting.proofs.posting.put_all.Goals as goal
 
 pub put_requests-requires : goal.put_requests-requires

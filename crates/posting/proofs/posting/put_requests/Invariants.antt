@@ -1,16 +1,11 @@
 -- One line after the other.
 use Prim.Native.Nat.{◌≤◌, ◌-◌, ◌+◌, ◌*◌}
 use Rattle.laws.specs.Joined.{joined}
-use Rattle.matching.proofs.Found.{result-of, results-length}
-use Rattle.posting.proofs.Following.{Put, put, joined-none, joined-next}
-use Rattle.posting.specs.Lines.{request_line, line_most}
+use Rattle.posting.proofs.Following.{Put}
+use Rattle.posting.specs.Lines.{line_most}
 use Rattle.posting.specs.Posting.{line_at}
-use Rattle.kinds.specs.Pairs.{debit_pair}
 use lib.ListN.{length}
-use mathlib.Core.Path.{◌≡◌, refl, ◌∙◌}
-use native.Mathlib.Nat.{le_antisymm}
-use native.Mathlib.Omega.{arith}
-use borrow.Author.Rules.{rules}
+use mathlib.Core.Path.{◌≡◌}
 use Rattle.posting.proofs.posting.put_requests.Given as goal
 
 abbrev pub invariant-loop-i : goal.invariant-loop-i

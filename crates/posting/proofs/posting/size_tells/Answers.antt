@@ -1,7 +1,6 @@
 -- By the length.
 use Rattle.posting.specs.Posting.{size_tells, most}
 use borrow.Author.Tests.{lt-ltb, le-ltb}
-use borrow.Author.Rules.{rules}
 use Rattle.posting.proofs.posting.size_tells.Goals as goal
 
 pub returns-then-file-gt-MOST : goal.returns-then-file-gt-MOST

@@ -3,7 +3,6 @@ use Rattle.laws.specs.Tabulate.{tabulate}
 use Rattle.posting.specs.Lines.{code_then}
 use Rattle.numbers.specs.Numbers.{letter_of}
 use borrow.Author.Tests.{eq-eqb, ne_eqb}
-use borrow.Author.Rules.{rules}
 use Rattle.posting.proofs.puts.code_then.Goals as goal
 
 pub returns-then-code-eq538976288 : goal.returns-then-code-eq538976288

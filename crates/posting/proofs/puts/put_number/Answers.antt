@@ -1,11 +1,10 @@
 -- One digit after the other, then the end.
-use Prim.Native.Nat.{◌≤◌, ◌-◌}
 use Rattle.posting.specs.Lines.{number_then}
 use Rattle.posting.proofs.Widths.{number-length, number-digit, number-end}
 use Rattle.posting.proofs.Following.{put_last}
-use lib.ListN.{length, length-set}
-use lib.Seq.{paste, paste-zero, paste-suc}
-use mathlib.Core.Path.{◌≡◌, refl}
+use lib.ListN.{length-set}
+use lib.Seq.{paste-zero, paste-suc}
+use mathlib.Core.Path.{refl}
 use native.Mathlib.Nat.{le_antisymm}
 use native.Mathlib.Numerals.{add-one}
 use native.Mathlib.Omega.{arith}

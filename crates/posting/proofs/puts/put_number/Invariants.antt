@@ -1,15 +1,9 @@
 -- One digit after the other, then the end.
 use Prim.Native.Nat.{◌≤◌, ◌-◌}
 use Rattle.posting.specs.Lines.{number_then}
-use Rattle.posting.proofs.Widths.{number-length, number-digit, number-end}
-use Rattle.posting.proofs.Following.{put_last}
-use lib.ListN.{length, length-set}
-use lib.Seq.{paste, paste-zero, paste-suc}
-use mathlib.Core.Path.{◌≡◌, refl}
-use native.Mathlib.Nat.{le_antisymm}
-use native.Mathlib.Numerals.{add-one}
-use native.Mathlib.Omega.{arith}
-use borrow.Author.Rules.{rules}
+use lib.ListN.{length}
+use lib.Seq.{paste}
+use mathlib.Core.Path.{◌≡◌}
 use Rattle.posting.proofs.puts.put_number.Given as goal
 
 abbrev pub invariant-loop-i : goal.invariant-loop-i

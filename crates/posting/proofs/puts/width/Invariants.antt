@@ -1,13 +1,8 @@
 -- One digit after the other is taken off the end.
 use Prim.Native.Nat.{◌≤◌, ◌-◌, ◌/◌, ◌^◌}
 use Rattle.laws.specs.Least.{least}
-use Rattle.laws.proofs.Leasts.{least_start}
 use Rattle.posting.specs.Decimal.{last_left}
-use Rattle.posting.proofs.Widths.{tenth, width-more, width-stop, width-end}
-use mathlib.Core.Path.{◌≡◌, sym}
-use native.Mathlib.Nat.{le_antisymm}
-use native.Mathlib.Omega.{arith}
-use borrow.Author.Rules.{rules}
+use mathlib.Core.Path.{◌≡◌}
 use Rattle.posting.proofs.puts.width.Given as goal
 
 abbrev pub invariant-loop-w : goal.invariant-loop-w

@@ -1,7 +1,6 @@
 -- The pair kind first.
 use Rattle.two_results.specs.Comparing.{story_told}
 use mathlib.Core.Path.{◌∙◌}
-use borrow.Author.Rules.{rules}
 use Rattle.two_results.proofs.comparing.compare.Goals as goal
 
 pub returns-in-Is : goal.returns-in-Is

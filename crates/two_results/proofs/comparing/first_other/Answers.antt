@@ -1,12 +1,7 @@
 -- What was not taken is asked of one request after the other, until it differs.
-use Prim.Native.Nat.{◌≤◌, ◌-◌}
-use Rattle.laws.specs.Least.{least}
 use Rattle.laws.proofs.Leasts.{least_start, least_more}
-use Rattle.kinds.specs.Pairs.{request_kind}
-use Rattle.records.specs.Records.{data_of}
-use Rattle.two_results.specs.Comparing.{other_at}
 use Rattle.two_results.proofs.Firsts.{lengths-of, result-at, left_at, other-false, other-here, other_none}
-use mathlib.Core.Path.{◌≡◌, sym, ◌∙◌}
+use mathlib.Core.Path.{sym, ◌∙◌}
 use native.Mathlib.Nat.{le_antisymm}
 use native.Mathlib.Omega.{arith}
 use borrow.Author.Rules.{rules}

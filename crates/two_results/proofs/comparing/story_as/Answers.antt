@@ -2,7 +2,6 @@
 use Rattle.two_results.proofs.Staged.{pair_read, story-first, story-second, story-both}
 use Rattle.answers.proofs.Refusals.{number_of}
 use mathlib.Core.Path.{sym, ◌∙◌}
-use borrow.Author.Rules.{rules}
 use Rattle.two_results.proofs.comparing.story_as.Goals as goal
 
 pub returns-then-of_first-ne0 : goal.returns-then-of_first-ne0

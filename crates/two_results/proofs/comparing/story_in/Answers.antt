@@ -1,7 +1,6 @@
 -- By the family.
 use Rattle.two_results.proofs.Staged.{story-debit}
 use mathlib.Core.Path.{sym, ◌∙◌}
-use borrow.Author.Rules.{rules}
 use Rattle.two_results.proofs.comparing.story_in.Goals as goal
 
 pub returns-in-Enrolment : goal.returns-in-Enrolment
