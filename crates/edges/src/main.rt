@@ -6,6 +6,7 @@ mod cases;
 mod changes;
 mod files;
 mod good;
+mod input;
 mod lists;
 mod pairs;
 mod reads;
@@ -17,7 +18,6 @@ mod writes;
 ghost use Rattle.std.specs.Prelude.{◌≡◌, length};
 
 use std::io;
-use words::input;
 
 // Room for all of standard input, and for a file of more records than a file may have.
 pub(crate) fn space() -> [u8; 327680]

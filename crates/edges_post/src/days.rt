@@ -1,10 +1,10 @@
 // The two files of a day, laid into the folder.
+use crate::input;
 use std::fs::{Files, OpenFile, Permissions};
 use std::io::Write;
 use std::os::unix::fs::PermissionsExt;
 use std::{fs, io};
 use text::parts;
-use words::input;
 
 // No file here is longer.
 const ROOM: usize = 70_000;

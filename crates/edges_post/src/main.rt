@@ -3,11 +3,11 @@
 
 mod cases;
 mod days;
+mod input;
 mod values;
 
 use std::io;
 use text::parts;
-use words::input;
 
 // The list of cases stands on standard input.
 fn main(rt: HostRuntime) -> io::Result<()> {

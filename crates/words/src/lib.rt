@@ -1,5 +1,4 @@
-// A list of cases: how it is read, and its lines and words, which are what stands between marks.
+// Lines and words of a list of cases: what stands between marks.
 #![tactic(auto)]
 
 pub mod fields;
-pub mod input;

@@ -3,8 +3,8 @@
 
 use std::path::{Path, PathBuf};
 
-/// What they read and write is the machine's (docs/DECISIONS.md).
-const EXCEPTIONS: [&str; 2] = ["folder::posts::post", "words::input::read_full"];
+/// What it reads and writes is the machine's (docs/DECISIONS.md).
+const EXCEPTIONS: [&str; 1] = ["folder::posts::post"];
 
 /// One public function: its path, its parameters with what it returns, and its `ensures` lines.
 struct Function {

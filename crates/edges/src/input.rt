@@ -1,10 +1,10 @@
-// A list of cases, or a file that a case names, as it is read.
+// Standard input, as it is read.
 ghost use Rattle.std.specs.Prelude.{◌≤◌, length};
 
 use std::io::Read;
 
 // How many bytes were read until the end, until room was full or until a read failed.
-pub fn read_full(from: &mut impl Read, room: &mut [u8]) -> usize
+pub(crate) fn read_full(from: &mut impl Read, room: &mut [u8]) -> usize
     ensures { result ≤ length room.new }
 {
     let mut done = 0;
