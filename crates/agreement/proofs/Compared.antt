@@ -15,9 +15,8 @@ use Rattle.answers.specs.Answers.{accepted, refused_at}
 use Rattle.answers.proofs.Refusals.{told, told-all, First, Good, number_of}
 use Rattle.records.specs.Records.{record_of}
 use Rattle.kinds.specs.declared.of_pairs.PairKind.{PairKind}
-use Rattle.agreement.specs.declared.items.Compared.TheVariants.{Headers}
 use Rattle.kinds.specs.Pairs.{request_kind, result_kind}
-use Rattle.agreement.specs.Items.{compared_of, agrees, item_tells, items_tell}
+use Rattle.agreement.specs.Items.{Headers, compared_of, agrees, item_tells, items_tell}
 use Rattle.agreement.specs.Meeting.{headers_tell}
 use Rattle.agreement.specs.Same.{SameItem, SameTo, SameItems, HeadersAgree}
 use Rattle.agreement.proofs.Differ.{item-good, item-bad}

@@ -4,9 +4,8 @@ use Rattle.answers.specs.declared.told.Answer.{Answer}
 use Rattle.answers.specs.Answers.{◌then◌}
 use Rattle.records.specs.Records.{record_of}
 use Rattle.kinds.specs.declared.of_pairs.PairKind.{PairKind}
-use Rattle.agreement.specs.declared.items.Compared.TheVariants.{Headers, Records}
 use Rattle.kinds.specs.Pairs.{request_kind, result_kind}
-use Rattle.agreement.specs.Items.{compared_of, items_tell}
+use Rattle.agreement.specs.Items.{Headers, Records, compared_of, items_tell}
 use Rattle.agreement.specs.Amounts.{amounts_tell}
 
 -- 12: the headers differ

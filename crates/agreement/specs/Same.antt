@@ -5,9 +5,8 @@ use Rattle.tables.specs.declared.copied.Copied.{Copied}
 use Rattle.tables.specs.Copied.{no_item}
 use Rattle.records.specs.Records.{record_of}
 use Rattle.kinds.specs.declared.of_pairs.PairKind.{PairKind}
-use Rattle.agreement.specs.declared.items.Compared.TheVariants.{Headers, Records}
 use Rattle.kinds.specs.Pairs.{request_kind, result_kind}
-use Rattle.agreement.specs.Items.{compared_of}
+use Rattle.agreement.specs.Items.{Headers, Records, compared_of}
 
 -- the data record of request i + 1 and of result j + 1
 abbrev pub request_at : PairKind → List ℕ → ℕ → List ℕ

@@ -2,5 +2,5 @@
 #![tactic(auto)]
 
 mod amounts;
-pub mod items;
+mod items;
 pub mod meeting;

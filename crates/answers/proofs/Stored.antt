@@ -7,9 +7,8 @@ use native.Mathlib.Omega.{arith}
 use borrow.Author.Tests.{le-leb, lt-leb}
 use lib.ListN.{length}
 use Rattle.answers.specs.declared.told.Answer.{Answer}
-use Rattle.answers.specs.declared.told.Stored.{Stored}
 use Rattle.answers.specs.Answers.{accepted, refused, ◌then◌}
-use Rattle.answers.specs.Storing.{room_tells, unless_refused, storing, at_front}
+use Rattle.answers.specs.Storing.{Stored, room_tells, unless_refused, storing, at_front}
 use Rattle.answers.proofs.Refusals.{number_of, refuses-is, refuses-not, then-first, then-second}
 
 -- a decision, then 8

@@ -15,6 +15,10 @@ refused number = refused_at number 0 0 0x30303030
 abbrev pub accepted : Answer
 accepted = refused 0
 
+-- an answer about one side of a pair
+abbrev pub on_side : ℕ → Answer → Answer
+on_side side a = record { side = side; number = a.number; rec = a.rec; item = a.item; code = a.code }
+
 -- the answer is a refusal
 unfoldable pub refuses : Answer → Bool
 refuses a = not (eqb a.number 0)

@@ -3,4 +3,6 @@
 
 pub mod lying;
 pub mod of_day;
+pub mod of_two;
+pub mod refusing;
 pub mod told;

@@ -2,12 +2,11 @@
 ghost use Rattle.std.specs.Prelude.{◌≡◌};
 ghost use Rattle.answers.specs.Lying.{is_one};
 
-// The file is refused; the part begins at a byte of the file and is so long; or there is none of that number.
-#[derive(Clone, Copy)]
-pub enum Lies {
-    Refused,
-    From(usize, usize),
-    Nowhere,
+// The part begins at a byte of the file and is so long.
+#[derive(Clone, Copy, PartialEq, Eq)]
+pub struct Part {
+    pub start: usize,
+    pub size: usize,
 }
 
 // There is such a number, of n; numbers count from 1.

@@ -1,11 +1,27 @@
-// What is told of a day file: the day's own number, which body, and that body's whole answer.
+// Why a day file is refused: a reason of its own, or a body's; and what is told of it.
 ghost use Rattle.std.specs.Prelude.{◌≡◌};
-ghost use Rattle.answers.specs.OfDay.{day_accepted, day_refused, day_refused_at};
+ghost use Rattle.answers.specs.OfDay.{told_of_day, day_answer_of};
 
-use crate::lying::Lies;
+use crate::refusing::Refusal;
 use crate::told::Answer;
 
-#[derive(Clone, Copy)]
+// A body is its number, from 1 on.
+#[derive(Clone, Copy, PartialEq, Eq)]
+pub enum OfDay {
+    // 30: the contents are none
+    Contents,
+    // 31: the lengths of the contents are not those of the bodies
+    Lengths,
+    // 32: a body has the name of an earlier one
+    SameName(u64),
+    // 33: a body is refused
+    Body(u64, Refusal),
+    // 8: lent room is too short
+    ShortRoom,
+}
+
+// The day's own number, which body, and that body's whole answer.
+#[derive(Clone, Copy, PartialEq, Eq)]
 pub struct DayAnswer {
     pub number: u64,
     // from 1 on; 0 where no body is meant
@@ -14,40 +30,38 @@ pub struct DayAnswer {
 }
 
 impl DayAnswer {
-    pub fn accepted() -> Self
-        ensures { result ≡ day_accepted }
-    {
-        DayAnswer::refused(0)
-    }
+    pub const ACCEPTED: DayAnswer = DayAnswer {
+        number: 0,
+        body: 0,
+        answer: Answer::ACCEPTED,
+    };
 
-    // A number that means no body.
-    pub fn refused(number: u64) -> Self
-        ensures { result ≡ day_refused number }
+    // What is told of a result of any kind.
+    pub fn of<T: Copy>(told: Result<T, OfDay>) -> Self
+        ensures { result ≡ day_answer_of told }
     {
-        DayAnswer::refused_at(number, 0, Answer::accepted())
+        match told {
+            Ok(_) => DayAnswer::ACCEPTED,
+            Err(refusal) => refusal.into(),
+        }
     }
+}
 
-    pub fn refused_at(number: u64, body: u64, answer: Answer) -> Self
-        ensures { result ≡ day_refused_at number body answer }
-    {
+impl From<OfDay> for DayAnswer {
+    ghost from_gives = { λ refusal answer. answer ≡ told_of_day refusal };
+
+    fn from(refusal: OfDay) -> Self {
+        let (number, body, answer) = match refusal {
+            OfDay::Contents => (30, 0, Answer::ACCEPTED),
+            OfDay::Lengths => (31, 0, Answer::ACCEPTED),
+            OfDay::SameName(body) => (32, body, Answer::ACCEPTED),
+            OfDay::Body(body, refusal) => (33, body, refusal.into()),
+            OfDay::ShortRoom => (8, 0, Answer::ACCEPTED),
+        };
         DayAnswer {
             number,
             body,
             answer,
         }
     }
-}
-
-// An answer, and how many bodies the day has or how many bytes were stored; none when refused.
-#[derive(Clone, Copy)]
-pub struct DayTold {
-    pub answer: DayAnswer,
-    pub count: usize,
-}
-
-// An answer, and where a body lies.
-#[derive(Clone, Copy)]
-pub struct DayShown {
-    pub answer: DayAnswer,
-    pub lies: Lies,
 }

@@ -31,8 +31,8 @@ module _ (k : Kind) (s : List ℕ) where
   body-none i h = rw (le-ltb i (data_of k s) h)
 
   -- each lies within them
-  pub body-within : (i n : ℕ) → n ≡ data_of k s → i < n → i * (fixed_of k).body + length (body_of k s i) ≤ n * (fixed_of k).body
-  body-within i n e l = rw (body_is i (rw e at l), bodies-sized k s i (rw e at l)) (size_below i n (fixed_of k).body l)
+  pub body-within : (i : ℕ) → i < data_of k s → i * (fixed_of k).body + length (body_of k s i) ≤ data_of k s * (fixed_of k).body
+  body-within i l = rw (body_is i l, bodies-sized k s i l) (size_below i (data_of k s) (fixed_of k).body l)
 
   -- they are no longer than the file
   pub bodies-within : data_of k s * (fixed_of k).body ≤ length s

@@ -11,8 +11,7 @@ use lib.Dec.{leb}
 use lib.ListN.{length}
 use Rattle.laws.proofs.Bools.{either}
 use Rattle.kinds.specs.declared.of_files.Kind.{Kind}
-use Rattle.kinds.specs.declared.of_files.Named.{Named}
-use Rattle.kinds.specs.declared.of_files.Named.TheVariants.{Is, Unknown}
+use Rattle.std.specs.Prelude.{Option, Some, None}
 use Rattle.answers.specs.declared.told.Answer.{Answer}
 use Rattle.answers.specs.Answers.{accepted, refuses}
 use Rattle.answers.specs.Storing.{storing, at_front}
@@ -27,7 +26,7 @@ use Rattle.apart.specs.Says.{Tells, Takes}
 use Rattle.apart.proofs.Stored.{apart-read, apart-8, apart-good, stored-none, stored-all}
 
 module _ (kind : ℕ) (s : List ℕ) (room : ℕ) where
-  tells_as : (k : Kind) → request_of kind ≡ Is k → Tells kind s room (apart_as k s room)
+  tells_as : (k : Kind) → request_of kind ≡ Some k → Tells kind s room (apart_as k s room)
   tells_as k e = ⊎_elim bad good (either (refuses (read_as k s)))
     where
       same : read_of kind s ≡ read_as k s
@@ -47,9 +46,9 @@ module _ (kind : ℕ) (s : List ℕ) (room : ℕ) where
           (λ b. let l = leb-false (length (bodies_in k s)) room b in rw (apart-8 k s room z l) (Tells.short k e r l))
           (either (leb (length (bodies_in k s)) room))
 
-  tells-named : (n : Named) → request_of kind ≡ n → Tells kind s room (apart_named n s room)
-  tells-named (Is k) e = tells_as k e
-  tells-named Unknown e = Tells.other e
+  tells-named : (n : Option Kind) → request_of kind ≡ n → Tells kind s room (apart_named n s room)
+  tells-named (Some k) e = tells_as k e
+  tells-named None e = Tells.other e
 
   -- *Every answer of taking apart, by its case*: 1, then as reading, then 8
   pub apart-tells : Tells kind s room (apart_of kind s room).answer
@@ -87,9 +86,9 @@ module _ (kind : ℕ) (s room : List ℕ) where
       let z = number_of (sym (read_named_lem kind s k (request-kind kind k t.named)) ∙ t.reads) in
       rw (t.named, stored-all k s (length room) (number_of (apart-good k s (length room) z t.fits)))
 
-  kept-named : (n : Named) → ((apart_named n s (length room)).number ≡ 0 → ⊥) → stored_named n s (length room) ≡ []
-  kept-named (Is k) ne = stored-none k s (length room) ne
-  kept-named Unknown ne = refl
+  kept-named : (n : Option Kind) → ((apart_named n s (length room)).number ≡ 0 → ⊥) → stored_named n s (length room) ≡ []
+  kept-named (Some k) ne = stored-none k s (length room) ne
+  kept-named None ne = refl
 
   -- *A refusal changes nothing*
   pub apart-kept : ((apart_of kind s (length room)).answer.number ≡ 0 → ⊥) → ((apart_of kind s (length room)).size ≡ 0) × (apart_after kind s room ≡ room)

@@ -2,20 +2,17 @@
 -- Assumes nothing.
 use Prim.Native.Nat.{ℕ, ◌*◌, ◌≤◌, ◌<◌}
 use mathlib.Core.List.{List, [], ◌++◌}
-use mathlib.Core.Path.{◌≡◌, sym, ◌∙◌}
+use mathlib.Core.Path.{◌≡◌, refl, sym, ◌∙◌}
 use lib.ListN.{length, drop}
 use Rattle.kinds.specs.declared.of_files.Kind.{Kind}
 use Rattle.kinds.specs.Kinds.{fixed_of}
 use Rattle.answers.specs.declared.told.Answer.{Answer}
-use Rattle.answers.specs.declared.told.Stored.{Stored}
+use Rattle.answers.specs.Storing.{Stored, storing, at_front}
 use Rattle.answers.specs.Answers.{accepted, refused}
-use Rattle.answers.specs.Storing.{storing, at_front}
-use Rattle.answers.proofs.Refusals.{number_of}
 use Rattle.answers.proofs.Stored.{room-refused, room-8, room-good, stores-none, stores-all, told-refused}
 use Rattle.answers.proofs.Stored as stored
 use Rattle.records.specs.Records.{data_of}
 use Rattle.reader.specs.Reading.{read_as}
-use Rattle.reader.proofs.Accepted.{read-zero}
 use Rattle.writer.specs.Apart.{bodies_in}
 use Rattle.writer.proofs.Taken.{bodies-length}
 use Rattle.apart.specs.Taking.{apart_as, stored_as}
@@ -53,19 +50,17 @@ module _ (k : Kind) (s room : List ℕ) where
   unfolding apart_as stored_as
   told-read = told-refused (read_as k s) (bodies_in k s) room
 
-  -- of n bodies of w bytes
-  module _ (a : Answer) (e : a ≡ read_as k s) (z : a.number ≡ 0) (n w : ℕ) (count : n ≡ data_of k s) (size : w ≡ (fixed_of k).body) where
-    long : n * w ≡ length (bodies_in k s)
-    long = rw (count, size) (sym (bodies-length k s))
+  -- once the file is accepted
+  module _ (read : (read_as k s).number ≡ 0) where
+    long : data_of k s * (fixed_of k).body ≡ length (bodies_in k s)
+    long = sym (bodies-length k s)
 
-    read : (read_as k s).number ≡ 0
-    read = number_of (sym e) ∙ z
-
-    pub told-8 : (b : Answer) → length room < n * w → b ≡ refused 8 → Told (storing b []) room
+    pub told-8 : length room < data_of k s * (fixed_of k).body → Told (storing (refused 8) []) room
     unfolding apart_as stored_as
-    told-8 b l r = stored.told-8 (read_as k s) (bodies_in k s) room b read (rw long at l) r
+    told-8 l = stored.told-8 (read_as k s) (bodies_in k s) room (refused 8) read (rw long at l) refl
 
-    pub told-good : (after : List ℕ) → n * w ≤ length room → after ≡ bodies_in k s ++ drop (n * (fixed_of k).body) room → Told (record { answer = a; size = n * w }) after
+    pub told-good :
+        (after : List ℕ) → data_of k s * (fixed_of k).body ≤ length room → after ≡ bodies_in k s ++ drop (data_of k s * (fixed_of k).body) room →
+        Told (record { answer = accepted; size = data_of k s * (fixed_of k).body }) after
     unfolding apart_as stored_as
-    told-good after h f =
-        stored.told-good (read_as k s) (bodies_in k s) room a (n * w) after read (rw long at h) (e ∙ read-zero k s read) long (f ∙ rw (← long, size))
+    told-good after h f = stored.told-good (read_as k s) (bodies_in k s) room accepted (data_of k s * (fixed_of k).body) after read (rw long at h) refl long (f ∙ rw (← long))

@@ -1,12 +1,9 @@
 -- What taking a file apart answers, and what the room holds after it.
-use Rattle.std.specs.Prelude.{ℕ, cond, List, [], ltb, length}
+use Rattle.std.specs.Prelude.{ℕ, cond, List, [], ltb, length, Option, Some, None}
 use Rattle.kinds.specs.declared.of_files.Kind.{Kind}
-use Rattle.kinds.specs.declared.of_files.Named.{Named}
-use Rattle.kinds.specs.declared.of_files.Named.TheVariants.{Is, Unknown}
 use Rattle.answers.specs.declared.told.Answer.{Answer}
-use Rattle.answers.specs.declared.told.Stored.{Stored}
+use Rattle.answers.specs.Storing.{Stored, room_tells, unless_refused, storing, at_front}
 use Rattle.answers.specs.Answers.{refused, ◌then◌}
-use Rattle.answers.specs.Storing.{room_tells, unless_refused, storing, at_front}
 use Rattle.records.specs.Records.{data_of}
 use Rattle.reader.specs.Reading.{read_as}
 use Rattle.kinds.specs.Kinds.{request_of}
@@ -25,13 +22,13 @@ unfoldable pub stored_as : Kind → List ℕ → ℕ → List ℕ
 stored_as k s room = unless_refused (apart_as k s room) (bodies_in k s)
 
 -- a kind that is not written is 1
-abbrev pub apart_named : Named → List ℕ → ℕ → Answer
-apart_named (Is k) s room = apart_as k s room
-apart_named Unknown s room = refused 1
+abbrev pub apart_named : Option Kind → List ℕ → ℕ → Answer
+apart_named (Some k) s room = apart_as k s room
+apart_named None s room = refused 1
 
-abbrev pub stored_named : Named → List ℕ → ℕ → List ℕ
-stored_named (Is k) s room = stored_as k s room
-stored_named Unknown s room = []
+abbrev pub stored_named : Option Kind → List ℕ → ℕ → List ℕ
+stored_named (Some k) s room = stored_as k s room
+stored_named None s room = []
 
 unfoldable pub apart_told : ℕ → List ℕ → ℕ → Answer
 apart_told kind s room = apart_named (request_of kind) s room

@@ -15,10 +15,7 @@ fn part_of(s: &[u8], start: usize, size: usize) -> &[u8]
     ensures { result.now ≡ part start size s.now }
 {
     let left = parts::rest(s, start);
-    if size <= left.len() {
-        return parts::part(left, 0, size);
-    }
-    left
+    &left[..size.min(left.len())]
 }
 
 // The header.
@@ -60,9 +57,9 @@ pub fn item7(kind: Kind, file: &[u8]) -> &[u8]
 pub fn body(kind: Kind, file: &[u8], i: usize) -> &[u8]
     ensures { result.now ≡ body_of kind file.now i }
 {
-    if i < listed::data_count(kind, file) {
-        let rec = listed::record_of(kind, file, i + 1);
-        return parts::part(rec, Fixed::FRONT, Fixed::of(kind).body);
+    if listed::data_count(kind, file) <= i {
+        return &[];
     }
-    parts::part(file, 0, 0)
+    let rec = listed::record_of(kind, file, i + 1);
+    parts::part(rec, Fixed::FRONT, Fixed::of(kind).body)
 }

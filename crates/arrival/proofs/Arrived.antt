@@ -15,8 +15,8 @@ use Rattle.laws.specs.Joined.{all}
 use Rattle.laws.proofs.Bools.{either}
 use Rattle.answers.specs.Answers.{accepted, refused, refuses}
 use Rattle.answers.proofs.Refusals.{number_of, refuses-zero, refuses-other, then-first, then-second, then-zero, tested}
-use Rattle.kinds.specs.declared.of_files.Named.{Named}
-use Rattle.kinds.specs.declared.of_files.Named.TheVariants.{Is, Unknown}
+use Rattle.std.specs.Prelude.{Option, Some, None}
+use Rattle.kinds.specs.declared.of_files.Kind.{Kind}
 use Rattle.kinds.specs.Kinds.{fixed_of, kind_of}
 use Rattle.reader.specs.Reading.{length_tells, read_as, read_named, read_of}
 use Rattle.reader.proofs.Lengths.{length-good}
@@ -54,17 +54,17 @@ pub in-any-room :
 in-any-room kind room parts = rw (arrived-held room parts) (held-end room (all parts) kind)
 
 -- a room as long as the longest file holds every file that is not 2 or 3
-whole-inside : (n : Named) (room : ℕ) (s : List ℕ) → longest ≤ room → read_inside n room s ≡ read_named n s
+whole-inside : (n : Option Kind) (room : ℕ) (s : List ℕ) → longest ≤ room → read_inside n room s ≡ read_named n s
 unfolding read_as
-whole-inside Unknown room s l = refl
-whole-inside (Is k) room s l = ⊎_elim bad good (either (refuses (length_tells k (length s))))
+whole-inside None room s l = refl
+whole-inside (Some k) room s l = ⊎_elim bad good (either (refuses (length_tells k (length s))))
   where
-    bad : refuses (length_tells k (length s)) ≡ true → read_inside (Is k) room s ≡ read_as k s
+    bad : refuses (length_tells k (length s)) ≡ true → read_inside (Some k) room s ≡ read_as k s
     bad t =
         let ne = refuses-other (length_tells k (length s)) t in
         then-first _ _ ne ∙ sym (then-first _ _ ne)
 
-    good : refuses (length_tells k (length s)) ≡ false → read_inside (Is k) room s ≡ read_as k s
+    good : refuses (length_tells k (length s)) ≡ false → read_inside (Some k) room s ≡ read_as k s
     good f =
         let z = refuses-zero (length_tells k (length s)) f in
         then-second _ _ z ∙ rw (le-leb (length s) room (fits z)) (then-second accepted (read_as k s) refl)
@@ -89,9 +89,9 @@ however-cut kind room parts others e =
     (ap (λ (l : Lent). end_told kind l.state l.room) same, ap (after_call (Call.End kind)) same)
 
 -- what is told accepted is not more than the room holds
-accepted-inside : (n : Named) (room : ℕ) (s : List ℕ) → (read_inside n room s).number ≡ 0 → length s ≤ room
-accepted-inside Unknown room s e = absurd (omega arith)
-accepted-inside (Is k) room s e =
+accepted-inside : (n : Option Kind) (room : ℕ) (s : List ℕ) → (read_inside n room s).number ≡ 0 → length s ≤ room
+accepted-inside None room s e = absurd (omega arith)
+accepted-inside (Some k) room s e =
     let fits = (then-zero _ _ (then-zero (length_tells k (length s)) _ e).1).0 in
     leb-true (length s) room (tested (leb (length s) room) (refused 8) (λ z. omega arith) fits)
 
@@ -111,16 +111,16 @@ file-in-room kind room parts e =
     (take-append_seam (take (length room) s) _ ∙ take_all (length room) s (accepted-inside (kind_of kind) (length room) s (number_of (sym (in-any-room kind room parts) ∙ e))))
 
 -- what is told accepted the reader accepts
-accepted-read : (n : Named) (room : ℕ) (s : List ℕ) → read_inside n room s ≡ accepted → read_named n s ≡ accepted
-accepted-read Unknown room s e = e
-accepted-read (Is k) room s e =
+accepted-read : (n : Option Kind) (room : ℕ) (s : List ℕ) → read_inside n room s ≡ accepted → read_named n s ≡ accepted
+accepted-read None room s e = e
+accepted-read (Some k) room s e =
     let zero = then-zero (length_tells k (length s)) _ (number_of e) in
     sym (then-second _ _ zero.0 ∙ then-second _ (read_as k s) (then-zero _ _ zero.1).0) ∙ e
 
 -- *Cut off*: of a file that is accepted no beginning is, in whatever parts and rooms the two arrive
-cut-named : (n : Named) (s : List ℕ) (m : ℕ) → m < length s → read_named n s ≡ accepted → read_named n (take m s) ≡ accepted → ⊥
-cut-named Unknown s m l e f = let z : ◌≡◌ {A = ℕ} 1 0 = number_of e in omega arith
-cut-named (Is k) s m l e f = cut_short k s m l e f
+cut-named : (n : Option Kind) (s : List ℕ) (m : ℕ) → m < length s → read_named n s ≡ accepted → read_named n (take m s) ≡ accepted → ⊥
+cut-named None s m l e f = let z : ◌≡◌ {A = ℕ} 1 0 = number_of e in omega arith
+cut-named (Some k) s m l e f = cut_short k s m l e f
 
 pub cut_off :
     (kind : ℕ) (room other : List ℕ) (whole some : List (List ℕ)) (m : ℕ) → m < length (all whole) →

@@ -16,8 +16,7 @@ use Rattle.laws.proofs.Bools.{either}
 use Rattle.answers.specs.Answers.{refused}
 use Rattle.answers.specs.Storing.{at_front}
 use Rattle.kinds.specs.declared.of_files.Kind.{Kind}
-use Rattle.kinds.specs.declared.of_files.Named.{Named}
-use Rattle.kinds.specs.declared.of_files.Named.TheVariants.{Is, Unknown}
+use Rattle.std.specs.Prelude.{Option, Some, None}
 use Rattle.kinds.specs.Kinds.{kind_of}
 use Rattle.reader.specs.Reading.{read_as}
 use Rattle.arrival.specs.Counting.{counted}
@@ -69,7 +68,7 @@ module _ (room s : List ℕ) where
 
   -- the end
   module _ (k : Kind) where
-    inside : leb (length s) (length room) ≡ true → end_as k (length kept) (counted (length s - length kept)) (held room s).room ≡ read_inside (Is k) (length room) s
+    inside : leb (length s) (length room) ≡ true → end_as k (length kept) (counted (length s - length kept)) (held room s).room ≡ read_inside (Some k) (length room) s
     unfolding end_as
     inside t =
         rw (
@@ -83,7 +82,7 @@ module _ (room s : List ℕ) where
           t,
         )
 
-    outside : leb (length s) (length room) ≡ false → end_as k (length kept) (counted (length s - length kept)) (held room s).room ≡ read_inside (Is k) (length room) s
+    outside : leb (length s) (length room) ≡ false → end_as k (length kept) (counted (length s - length kept)) (held room s).room ≡ read_inside (Some k) (length room) s
     unfolding end_as
     outside f =
         rw (
@@ -103,6 +102,6 @@ module _ (room s : List ℕ) where
   pub held-end : (kind : ℕ) → end_told kind (held room s).state (held room s).room ≡ read_inside (kind_of kind) (length room) s
   held-end kind = sym (open-end (held room s).state (held room s).room held-open kind).0 ∙ named (kind_of kind)
     where
-      named : (n : Named) → end_named n (length kept) (counted (length s - length kept)) (held room s).room ≡ read_inside n (length room) s
-      named Unknown = refl
-      named (Is k) = ⊎_elim (inside k) (outside k) (either (leb (length s) (length room)))
+      named : (n : Option Kind) → end_named n (length kept) (counted (length s - length kept)) (held room s).room ≡ read_inside n (length room) s
+      named None = refl
+      named (Some k) = ⊎_elim (inside k) (outside k) (either (leb (length s) (length room)))

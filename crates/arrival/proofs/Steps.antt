@@ -3,18 +3,21 @@
 use Prim.Native.Nat.{ℕ, ◌+◌, ◌-◌, ◌≤◌, ◌<◌}
 use mathlib.Core.Bool.{true, false, and-false}
 use mathlib.Core.List.{List}
-use mathlib.Core.Path.{◌≡◌, refl}
+use mathlib.Core.Path.{◌≡◌, refl, ap}
 use native.Mathlib.Omega.{arith}
 use borrow.Author.Tests.{eq-eqb, ne_eqb, le-leb, lt-leb}
 use lib.ListN.{length}
 use Rattle.laws.specs.Stored.{stored}
 use Rattle.answers.specs.Answers.{accepted, refused, ◌then◌}
 use Rattle.answers.specs.declared.told.Answer.{Answer}
+use Rattle.answers.specs.declared.refusing.Refusal.{Refusal}
+use Rattle.answers.specs.Refusing.{answer_of}
 use Rattle.answers.proofs.Refusals.{then-first}
+use Rattle.answers.proofs.Tellings.{bad}
+use Rattle.std.specs.Prelude.{Result, Ok, Err}
 use Rattle.kinds.specs.Kinds.{kind_of}
-use Rattle.arrival.specs.declared.arriving.PartTold.TheVariants.{More, Ended}
 use Rattle.arrival.specs.Counting.{counted}
-use Rattle.arrival.specs.Arriving.{state_of, kept_in, past_in, ended, has_ended, part_told, fitting, room_with, state_with}
+use Rattle.arrival.specs.Arriving.{PartTold, More, Ended, number_of, answered, number_by, state_of, kept_in, past_in, ended, has_ended, part_told, fitting, room_with, state_with}
 use Rattle.arrival.specs.Ending.{room_tells, end_named, end_told, state_ended}
 
 -- what follows a room that is too short is not told
@@ -59,3 +62,10 @@ module _ (state room : List ℕ) where
     pub open-end : (kind : ℕ) → (end_named (kind_of kind) (kept_in state) (past_in state) room ≡ end_told kind state room) × (state_of (kept_in state) ended ≡ state_ended state)
     unfolding end_told state_ended
     open-end kind = rw f (refl, refl)
+
+-- a result that is told as a part's is answered the part's number
+pub number-answered : {A : Type 0} (r : Result A Refusal) (p : PartTold) → answer_of r ≡ answered p → number_by r ≡ number_of p
+number-answered (Ok a) More e = refl
+number-answered (Ok a) Ended e = absurd (let z : ◌≡◌ {A = ℕ} 0 9 = ap (λ (x : Answer). x.number) e in omega arith)
+number-answered (Err r) More e = absurd (bad r accepted e refl)
+number-answered (Err r) Ended e = ap (λ (a : Answer). a.number) e

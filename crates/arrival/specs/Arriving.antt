@@ -1,8 +1,10 @@
 -- A part of a file, cut anywhere: its bytes lie in lent room as far as they fit, and the state is two numbers.
-use Rattle.std.specs.Prelude.{ℕ, ◌+◌, ◌-◌, Bool, cond, List, [], ◌∷◌, eqb, length, get_or, take}
+use Rattle.std.specs.Prelude.{ℕ, ◌+◌, ◌-◌, Bool, cond, Result, Ok, Err, List, [], ◌∷◌, eqb, length, get_or, take}
 use Rattle.laws.specs.Stored.{stored}
-use Rattle.arrival.specs.declared.arriving.PartTold.{PartTold}
-use Rattle.arrival.specs.declared.arriving.PartTold.TheVariants.{More, Ended}
+use Rattle.answers.specs.declared.told.Answer.{Answer}
+use Rattle.answers.specs.declared.refusing.Refusal.{Refusal}
+use Rattle.answers.specs.Answers.{accepted, refused}
+use Rattle.answers.specs.Refusing.{told_by}
 use Rattle.arrival.specs.Counting.{counted}
 
 -- a state: how many bytes lie in the room, and how many came past it, as they are counted
@@ -22,7 +24,12 @@ ended = 0xFFFFFFFFFFFFFFFF
 unfoldable pub has_ended : List ℕ → Bool
 has_ended state = eqb (past_in state) ended
 
--- what is told of a part: nothing of the file
+-- what is told of a part: more may come, or the end has come before
+pub data PartTold : Type 0 where
+  More : PartTold
+  Ended : PartTold
+
+-- nothing of the file
 unfoldable pub part_told : List ℕ → PartTold
 part_told state = cond (has_ended state) Ended More
 
@@ -30,6 +37,16 @@ part_told state = cond (has_ended state) Ended More
 abbrev pub number_of : PartTold → ℕ
 number_of More = 10
 number_of Ended = 9
+
+-- as a result: only a part after the end is refused
+abbrev pub answered : PartTold → Answer
+answered More = accepted
+answered Ended = refused 9
+
+-- the number that a result is answered
+abbrev pub number_by : {A : Type 0} → Result A Refusal → ℕ
+number_by (Ok a) = 10
+number_by (Err r) = (told_by r).number
 
 -- the bytes of a part for which there is room
 abbrev pub fitting : List ℕ → ℕ → List ℕ → List ℕ

@@ -1,10 +1,9 @@
 -- Call after call on one state and one room, and the file that was cut into parts.
-use Rattle.std.specs.Prelude.{ℕ, ◌-◌, cond, List, [], ◌∷◌, map, leb, length, take}
+use Rattle.std.specs.Prelude.{ℕ, ◌-◌, cond, List, [], ◌∷◌, map, leb, length, take, Option, Some, None}
+use Rattle.kinds.specs.declared.of_files.Kind.{Kind}
 use Rattle.answers.specs.declared.told.Answer.{Answer}
 use Rattle.answers.specs.Answers.{accepted, refused, ◌then◌}
 use Rattle.answers.specs.Storing.{at_front}
-use Rattle.kinds.specs.declared.of_files.Named.{Named}
-use Rattle.kinds.specs.declared.of_files.Named.TheVariants.{Is, Unknown}
 use Rattle.reader.specs.Reading.{length_tells, read_as}
 use Rattle.arrival.specs.Counting.{counted}
 use Rattle.arrival.specs.Arriving.{state_of, part_told, number_of, room_with, state_with}
@@ -62,6 +61,6 @@ held room s =
     record { state = state_of (length (take (length room) s)) (counted (length s - length (take (length room) s))); room = at_front (take (length room) s) room }
 
 -- what is told of joined bytes in a room: as by the reader, but for 8 after 1, 2 and 3 where they are more than it holds
-abbrev pub read_inside : Named → ℕ → List ℕ → Answer
-read_inside (Is k) room s = length_tells k (length s) then cond (leb (length s) room) accepted (refused 8) then read_as k s
-read_inside Unknown room s = refused 1
+abbrev pub read_inside : Option Kind → ℕ → List ℕ → Answer
+read_inside (Some k) room s = length_tells k (length s) then cond (leb (length s) room) accepted (refused 8) then read_as k s
+read_inside None room s = refused 1

@@ -1,10 +1,8 @@
 -- The end of a file that came in parts: 9, 1, 2, 3, 8, and then as reading what lies in the room.
-use Rattle.std.specs.Prelude.{ℕ, ◌+◌, cond, ◌&&◌, List, eqb, leb, length, take}
+use Rattle.std.specs.Prelude.{ℕ, ◌+◌, cond, ◌&&◌, List, eqb, leb, length, take, Option, Some, None}
 use Rattle.answers.specs.declared.told.Answer.{Answer}
 use Rattle.answers.specs.Answers.{accepted, refused, ◌then◌}
 use Rattle.kinds.specs.declared.of_files.Kind.{Kind}
-use Rattle.kinds.specs.declared.of_files.Named.{Named}
-use Rattle.kinds.specs.declared.of_files.Named.TheVariants.{Is, Unknown}
 use Rattle.kinds.specs.Kinds.{kind_of}
 use Rattle.reader.specs.Reading.{length_tells, read_as}
 use Rattle.arrival.specs.Counting.{counted}
@@ -19,9 +17,9 @@ unfoldable pub end_as : Kind → ℕ → ℕ → List ℕ → Answer
 end_as k kept past room = length_tells k (counted (kept + past)) then room_tells kept past (length room) then read_as k (take kept room)
 
 -- 1: the kind is unknown
-abbrev pub end_named : Named → ℕ → ℕ → List ℕ → Answer
-end_named (Is k) kept past room = end_as k kept past room
-end_named Unknown kept past room = refused 1
+abbrev pub end_named : Option Kind → ℕ → ℕ → List ℕ → Answer
+end_named (Some k) kept past room = end_as k kept past room
+end_named None kept past room = refused 1
 
 -- 9: the end has come before
 unfoldable pub end_told : ℕ → List ℕ → List ℕ → Answer

@@ -18,7 +18,7 @@ use Rattle.laws.proofs.Parts.{part_length}
 use Rattle.laws.proofs.Stores.{stored-length, stored_here, stored-before, stored-behind}
 use Rattle.kinds.specs.declared.of_files.Own.{Own}
 use Rattle.kinds.specs.declared.of_pairs.PairKind.{PairKind}
-use Rattle.kinds.specs.declared.of_pairs.PairNamed.TheVariants.{Is}
+use Rattle.std.specs.Prelude.{Some}
 use Rattle.kinds.specs.declared.of_pairs.Family.{Family}
 use Rattle.kinds.specs.declared.of_pairs.Family.TheVariants.{Enrolment, Debit}
 use Rattle.kinds.specs.Kinds.{fixed_of}
@@ -142,7 +142,7 @@ module _ (p : PairKind) (q dates : List ℕ) (twelve : length dates ≡ 12) (six
       (start-cases o)
 
 module _ (kind : ℕ) (q r : List ℕ) (board : List Member) (dates : List ℕ) (twelve : length dates ≡ 12) where
-  module _ (p : PairKind) (is : pair_of kind ≡ Is p) where
+  module _ (p : PairKind) (is : pair_of kind ≡ Some p) where
     -- *An accepted posting moves the date of its sort to its own*
     pub own-date-moves : (board_told kind q r board dates).number ≡ 0 → last_posted p (dates_after kind q r board dates) ≡ day_of p q
     own-date-moves good =

@@ -9,7 +9,7 @@ use native.Mathlib.Omega.{arith}
 use lib.ListN.{length, get_or}
 use Rattle.laws.proofs.Bools.{either}
 use Rattle.kinds.specs.declared.of_pairs.PairKind.{PairKind}
-use Rattle.kinds.specs.declared.of_pairs.PairNamed.TheVariants.{Is}
+use Rattle.std.specs.Prelude.{Some}
 use Rattle.kinds.specs.Pairs.{pair_of}
 use Rattle.answers.specs.Answers.{refuses}
 use Rattle.answers.proofs.Refusals.{refuses-zero, refuses-other}
@@ -41,7 +41,7 @@ module _ (kind : ℕ) (q r : List ℕ) (board : List Member) (dates : List ℕ) 
           let p = x.0 in
           ap length (board-posted kind q r board dates p x.1 e) ∙ members-length (payer_at p q) (taken_at p q r) (requests p q) board
 
-  module _ (p : PairKind) (is : pair_of kind ≡ Is p) (good : (board_told kind q r board dates).number ≡ 0) where
+  module _ (p : PairKind) (is : pair_of kind ≡ Some p) (good : (board_told kind q r board dates).number ≡ 0) where
     -- *The sum taken from a payer never exceeds what it owes*
     pub never-over : (k : ℕ) → k < length board → taken_of p q r (payer_on board k) ≤ owed_on board k
     never-over =

@@ -15,8 +15,7 @@ use Rattle.laws.proofs.Bools.{either, clash}
 use Rattle.laws.proofs.Leasts.{least-is, least-stop, least-none}
 use Rattle.keys.specs.Keys.{repeats_in}
 use Rattle.kinds.specs.declared.of_pairs.PairKind.{PairKind}
-use Rattle.kinds.specs.declared.of_pairs.PairNamed.{PairNamed}
-use Rattle.kinds.specs.declared.of_pairs.PairNamed.TheVariants.{Is, Unknown}
+use Rattle.std.specs.Prelude.{Option, Some, None}
 use Rattle.kinds.specs.declared.of_pairs.Family.{Family}
 use Rattle.kinds.specs.declared.of_pairs.Family.TheVariants.{Enrolment, Debit}
 use Rattle.kinds.specs.Pairs.{pair_of}
@@ -148,13 +147,13 @@ module _ (kind : ℕ) (q r : List ℕ) (board : List Member) (dates : List ℕ) 
               (BoardSays.date p x e (λ l. clash (later-if (day_of p q) (last_posted p dates) l) g))
 
   -- by the pair kind, and by its family
-  says-family : (p : PairKind) → Differ board → pair_of kind ≡ Is p → (f : Family) → p.family ≡ f → Says
+  says-family : (p : PairKind) → Differ board → pair_of kind ≡ Some p → (f : Family) → p.family ≡ f → Says
   says-family p d e Enrolment g = rw (told-enrolment kind q r board dates p e (differ-number board d) g) (BoardSays.enrolment p d e g)
   says-family p d e Debit g = says-debit p (record { payers = d; named = e; debit = g })
 
-  says-named : Differ board → (n : PairNamed) → pair_of kind ≡ n → Says
-  says-named d (Is p) e = says-family p d e p.family refl
-  says-named d Unknown e = rw (told-unknown kind q r board dates (differ-number board d) e) (BoardSays.unknown d e)
+  says-named : Differ board → (n : Option PairKind) → pair_of kind ≡ n → Says
+  says-named d (Some p) e = says-family p d e p.family refl
+  says-named d None e = rw (told-unknown kind q r board dates (differ-number board d) e) (BoardSays.unknown d e)
 
   -- *First refusal* of a posting: the answer names the first thing wrong
   pub board-says : BoardSays kind q r board dates (board_told kind q r board dates)

@@ -10,5 +10,4 @@ pub mod Money
 pub mod Days
 pub mod Once
 pub mod First
-pub mod Stepped
 pub mod Whole

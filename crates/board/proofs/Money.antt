@@ -9,7 +9,7 @@ use Rattle.laws.specs.Sum.{sum}
 use Rattle.laws.proofs.Sums.{sum_same, sum-add, sum_one, sum-swap}
 use Rattle.keys.specs.Keys.{Distinct}
 use Rattle.kinds.specs.declared.of_pairs.PairKind.{PairKind}
-use Rattle.kinds.specs.declared.of_pairs.PairNamed.TheVariants.{Is}
+use Rattle.std.specs.Prelude.{Some}
 use Rattle.kinds.specs.Pairs.{request_kind, pair_of}
 use Rattle.records.specs.Records.{data_of}
 use Rattle.matching.specs.Amounts.{taken_at}
@@ -53,7 +53,7 @@ module _ (key : ℕ → List ℕ) (won : ℕ → ℕ) (n : ℕ) (board : List Me
 
 -- *No money is lost or made*
 pub money :
-    (kind : ℕ) (q r : List ℕ) (board : List Member) (dates : List ℕ) (p : PairKind) → pair_of kind ≡ Is p → (board_told kind q r board dates).number ≡ 0 →
+    (kind : ℕ) (q r : List ℕ) (board : List Member) (dates : List ℕ) (p : PairKind) → pair_of kind ≡ Some p → (board_told kind q r board dates).number ≡ 0 →
     owed_in_all board ≡ owed_in_all (board_after kind q r board dates) + sum (taken_at p q r) (data_of (request_kind p) q)
 unfolding members_as
 money kind q r board dates p is good =

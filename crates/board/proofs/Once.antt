@@ -11,7 +11,7 @@ use lib.Dec.{eqb}
 use lib.ListN.{length}
 use Rattle.laws.proofs.Bools.{either, clash}
 use Rattle.kinds.specs.declared.of_pairs.PairKind.{PairKind}
-use Rattle.kinds.specs.declared.of_pairs.PairNamed.TheVariants.{Is}
+use Rattle.std.specs.Prelude.{Some}
 use Rattle.kinds.specs.declared.of_pairs.Family.TheVariants.{Debit}
 use Rattle.kinds.specs.Pairs.{pair_of}
 use Rattle.answers.specs.Answers.{refused_at, refuses}
@@ -30,7 +30,7 @@ use Rattle.board.proofs.Days.{later-self, later-if, later-is, later_trans, day-m
 
 -- a day that is not later is refused
 pub early-refused :
-    (kind : ℕ) (q r : List ℕ) (board : List Member) (dates : List ℕ) (p : PairKind) → pair_of kind ≡ Is p → p.family ≡ Debit → repeat_number board ≡ 0 →
+    (kind : ℕ) (q r : List ℕ) (board : List Member) (dates : List ℕ) (p : PairKind) → pair_of kind ≡ Some p → p.family ≡ Debit → repeat_number board ≡ 0 →
     later (day_of p q) (last_posted p dates) ≡ false → (board_told kind q r board dates).number ≡ 0 → ⊥
 early-refused kind q r board dates p is debit payers early z = ⊎_elim bad good (either (refuses (pair_by p q r true)))
   where
@@ -49,7 +49,7 @@ pub record Past (p : PairKind) (day : List ℕ) (l : Lent) : Type 0 where
   pub past : later day (last_posted p l.dates) ≡ false
 
 -- a posting of such a day is refused
-pub past-refused : (p : PairKind) (c : Call) (l : Lent) → pair_of c.kind ≡ Is p → p.family ≡ Debit → Past p (day_of p c.request) l → NotAgain p c l
+pub past-refused : (p : PairKind) (c : Call) (l : Lent) → pair_of c.kind ≡ Some p → p.family ≡ Debit → Past p (day_of p c.request) l → NotAgain p c l
 unfolding told_to after_call
 past-refused p c l is debit x =
     let refusal = early-refused c.kind c.request c.result l.members l.dates p is debit x.payers x.past in
@@ -86,7 +86,7 @@ module _ (p : PairKind) (day : List ℕ) (short : length day ≤ 6) where
           o : PairKind
           o = (posted-kind c.kind c.request c.result board dates e).0
 
-          is : pair_of c.kind ≡ Is o
+          is : pair_of c.kind ≡ Some o
           is = (posted-kind c.kind c.request c.result board dates e).1
 
           payers : repeat_number (board_after c.kind c.request c.result board dates) ≡ 0
@@ -121,7 +121,7 @@ module _ (p : PairKind) (day : List ℕ) (short : length day ≤ 6) where
 
 -- right after an accepted posting every day is past that is not later than its own
 posted-past :
-    (p : PairKind) (day : List ℕ) (c : Call) (l : Lent) → pair_of c.kind ≡ Is p → (told_to c l).number ≡ 0 → length l.dates ≡ 12 →
+    (p : PairKind) (day : List ℕ) (c : Call) (l : Lent) → pair_of c.kind ≡ Some p → (told_to c l).number ≡ 0 → length l.dates ≡ 12 →
     later day (day_of p c.request) ≡ false → Past p day (after_call c l)
 unfolding told_to after_call members_as
 posted-past p day c l is good twelve early = record {
@@ -134,7 +134,7 @@ posted-past p day c l is good twelve early = record {
 
 -- *Never again*: after an accepted posting, and any postings behind it, no pair of its sort whose day is not later
 pub never-again :
-    (p : PairKind) (c d : Call) (l : Lent) → pair_of c.kind ≡ Is p → pair_of d.kind ≡ Is p → (told_to c l).number ≡ 0 → length l.dates ≡ 12 →
+    (p : PairKind) (c d : Call) (l : Lent) → pair_of c.kind ≡ Some p → pair_of d.kind ≡ Some p → (told_to c l).number ≡ 0 → length l.dates ≡ 12 →
     (Later (day_of p d.request) (day_of p c.request) → ⊥) → (calls : List Call) → NotAgain p d (after_calls calls (after_call c l))
 unfolding told_to
 never-again p c d l is also good twelve not calls =

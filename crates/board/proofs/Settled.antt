@@ -2,7 +2,7 @@
 -- Assumes nothing.
 use Prim.Native.Nat.{ℕ, ◌+◌, ◌≤◌, ◌<◌}
 use mathlib.Core.List.{List, map}
-use mathlib.Core.Path.{◌≡◌, refl, sym, ◌∙◌}
+use mathlib.Core.Path.{◌≡◌, sym, ◌∙◌}
 use native.Mathlib.Nat.{le_refl}
 use native.Mathlib.Omega.{arith}
 use borrow.Author.Count.{below_more}
@@ -17,9 +17,6 @@ pub record Turned {A : Type 0} (f : A → A) (d : A) (first : List A) (at : ℕ)
   pub left : (k : ℕ) → at ≤ k → get_or now k d ≡ get_or first k d
 
 module _ {A : Type 0} (f : A → A) (d : A) (first : List A) where
-  pub turned-start : Turned f d first 0 first
-  turned-start = record { long = refl; done = λ k h. absurd (omega arith); left = λ k h. refl }
-
   pub turned_more : (at : ℕ) (now : List A) → at < length first → Turned f d first at now → Turned f d first (at + 1) (set now at (f (get_or now at d)))
   turned_more at now h t = record {
     long = length-set now at _ ∙ t.long;

@@ -150,17 +150,6 @@ module _ (p : Place) (payer room : List ℕ) where
   unfolding joined_links
   links-kept links f = rw f
 
--- the links stay as long as they are
-module _ (p : Place) (payer links room : List ℕ) where
-  joined_length : length (joined_links p payer links room) ≡ length links
-  joined_length =
-      ⊎_elim (λ t. rw (links-held p payer room links t) (with-length payer (held_in p) links)) (λ f. rw (links-kept p payer room links f))
-      (either (holds p payer room))
-
-  pub seeks-links : length (sought_links p payer links room) ≡ length links
-  unfolding sought_links
-  seeks-links = ⊎_elim (λ t. rw t (none-length (joined_links p payer links room) ∙ joined_length)) (λ f. rw f joined_length) (either (goes_on (moved_on p payer room)))
-
 -- between two turns, of a search among `many` keys: those before `from` are done with, those from there on are held while there is room
 pub record Sought (key : ℕ → List ℕ) (many : ℕ) (p : Place) (links room : List ℕ) : Type 0 where
   pub begun : p.from ≤ p.at
@@ -356,16 +345,6 @@ module _ (key : ℕ → List ℕ) (many : ℕ) where
     pub seeks-turn : Seeks key many (sought_place p payer room) (sought_links p payer links room) (sought_room p payer room)
     unfolding sought_place sought_links
     seeks-turn = seeks-next (moved_on p payer room) (joined_links p payer links room) (sought_room p payer room) sought-moved
-
-    -- the room stays as long as it is
-    pub seeks-room : length (sought_room p payer room) ≡ length room
-    unfolding holds
-    seeks-room =
-        ⊎_elim (λ t. rw (room-held p payer room t) (held-length room payer (held_in p) (fits t) long)) (λ f. rw (room-kept p payer room f))
-        (either (holds p payer room))
-      where
-        fits : holds p payer room ≡ true → 20 * held_in p + 20 ≤ length room
-        fits t = let l : p.at - p.from < held = ltb-true _ _ (and_right (not (seen p payer room)) _ t) in omega (arith, held-few p l, s.held-room)
 
   -- at the end it is the first that repeats
   pub seeks-end : (p : Place) (links room : List ℕ) → Seeks key many p links room → (p.at < p.end → ⊥) → p.end ≡ least (repeats_in key) many

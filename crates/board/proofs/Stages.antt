@@ -10,8 +10,7 @@ use borrow.Author.Tests.{eqb-true, eq-eqb, ne_eqb}
 use lib.Dec.{eqb}
 use Rattle.laws.proofs.Bools.{either}
 use Rattle.kinds.specs.declared.of_pairs.PairKind.{PairKind}
-use Rattle.kinds.specs.declared.of_pairs.PairNamed.{PairNamed}
-use Rattle.kinds.specs.declared.of_pairs.PairNamed.TheVariants.{Is, Unknown}
+use Rattle.std.specs.Prelude.{Option, Some, None}
 use Rattle.kinds.specs.declared.of_pairs.Family.{Family}
 use Rattle.kinds.specs.declared.of_pairs.Family.TheVariants.{Enrolment, Debit}
 use Rattle.kinds.specs.Pairs.{request_kind, pair_of}
@@ -92,25 +91,25 @@ module _ (kind : ℕ) (q r : List ℕ) (board : List Member) (dates : List ℕ) 
       let e = repeat-told (repeat_number board) ne in
       then-first (repeat_tells (repeat_number board)) _ (λ z. absurd (let y : ◌≡◌ {A = ℕ} 43 0 = number_of (sym e) ∙ z in omega arith)) ∙ e
 
-  pub told-unknown : repeat_number board ≡ 0 → pair_of kind ≡ Unknown → board_told kind q r board dates ≡ refused 1
+  pub told-unknown : repeat_number board ≡ 0 → pair_of kind ≡ None → board_told kind q r board dates ≡ refused 1
   unfolding board_told ready_told
   told-unknown payers e =
       then-second (repeat_tells (repeat_number board)) _ (number_of (repeat-none (repeat_number board) payers)) ∙
       rw e (then-first (refused 1) accepted (λ z. absurd (omega arith)))
 
   -- an accepted posting is one of a pair kind
-  known-named : (n : PairNamed) → pair_of kind ≡ n → (board_told kind q r board dates).number ≡ 0 → (p : PairKind) × (pair_of kind ≡ Is p)
+  known-named : (n : Option PairKind) → pair_of kind ≡ n → (board_told kind q r board dates).number ≡ 0 → (p : PairKind) × (pair_of kind ≡ Some p)
   unfolding board_told ready_told
-  known-named (Is p) e z = (p, e)
-  known-named Unknown e z =
+  known-named (Some p) e z = (p, e)
+  known-named None e z =
       let a = then-zero (repeat_tells (repeat_number board)) (refused 1 then accepted) (rw e at z) in
       let b : ◌≡◌ {A = ℕ} 1 0 = (then-zero (refused 1) accepted a.1).0 in
       absurd (omega arith)
 
-  pub posted-kind : (board_told kind q r board dates).number ≡ 0 → (p : PairKind) × (pair_of kind ≡ Is p)
+  pub posted-kind : (board_told kind q r board dates).number ≡ 0 → (p : PairKind) × (pair_of kind ≡ Some p)
   posted-kind = known-named (pair_of kind) refl
 
-  module _ (p : PairKind) (named : pair_of kind ≡ Is p) where
+  module _ (p : PairKind) (named : pair_of kind ≡ Some p) where
     pub told_named : board_told kind q r board dates ≡ (repeat_tells (repeat_number board) then ready_in p.family p q r dates then requests_tell p q r board)
     unfolding board_told ready_told
     told_named = rw named

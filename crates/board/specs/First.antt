@@ -1,8 +1,7 @@
 -- What each answer about a posting says: what is told is the first thing wrong, in the order of the paper.
-use Rattle.std.specs.Prelude.{ℕ, ◌+◌, ◌≤◌, ◌<◌, true, List, ◌≡◌, length, get_or}
+use Rattle.std.specs.Prelude.{ℕ, ◌+◌, ◌≤◌, ◌<◌, true, List, ◌≡◌, length, get_or, Some, None}
 use Rattle.keys.specs.Keys.{Distinct}
 use Rattle.kinds.specs.declared.of_pairs.PairKind.{PairKind}
-use Rattle.kinds.specs.declared.of_pairs.PairNamed.TheVariants.{Is, Unknown}
 use Rattle.kinds.specs.declared.of_pairs.Family.TheVariants.{Enrolment, Debit}
 use Rattle.kinds.specs.Pairs.{pair_of}
 use Rattle.answers.specs.declared.told.Answer.{Answer}
@@ -49,7 +48,7 @@ StandTo p q r board n = (i : ℕ) → i < n → Stands p q r board i
 -- payers differ, and the number names a pair kind of debit
 pub record Known (kind : ℕ) (board : List Member) (p : PairKind) : Type 0 where
   pub payers : Differ board
-  pub named : pair_of kind ≡ Is p
+  pub named : pair_of kind ≡ Some p
   pub debit : p.family ≡ Debit
 
 -- the pair is accepted too, and its day is later than the last of its sort
@@ -71,8 +70,8 @@ pub data BoardSays (kind : ℕ) (q r : List ℕ) (board : List Member) (dates : 
   repeated : (k : ℕ) → k < length board → Repeats board k → ((j : ℕ) → j < k → Repeats board j → ⊥) →
       BoardSays kind q r board dates (refused_at 43 (k + 1) 0 0x30303030)
   -- 1: payers differ, and the number names no pair kind, or one of enrolment
-  unknown : Differ board → pair_of kind ≡ Unknown → BoardSays kind q r board dates (refused 1)
-  enrolment : (p : PairKind) → Differ board → pair_of kind ≡ Is p → p.family ≡ Enrolment → BoardSays kind q r board dates (refused 1)
+  unknown : Differ board → pair_of kind ≡ None → BoardSays kind q r board dates (refused 1)
+  enrolment : (p : PairKind) → Differ board → pair_of kind ≡ Some p → p.family ≡ Enrolment → BoardSays kind q r board dates (refused 1)
   -- the pair is refused, with its own answer
   pair : (p : PairKind) → Known kind board p → ((pair_by p q r true).number ≡ 0 → ⊥) → BoardSays kind q r board dates (pair_by p q r true)
   -- 40: the pair is accepted, and its day is not later than the last of its sort

@@ -6,3 +6,5 @@ pub mod Sizes
 pub mod Stores
 pub mod Built
 pub mod Bodies
+pub mod Made
+pub mod Pieces

@@ -5,8 +5,7 @@ use mathlib.Core.Bool.{Bool, true, false, ◌&&◌, ◌||◌}
 use mathlib.Core.List.{List, [], ◌∷◌}
 use mathlib.Core.Path.{◌≡◌, refl, ap, sym, ◌∙◌}
 use mathlib.Core.Logic.{⊎_elim}
-use native.Mathlib.Nat.{le-add_right, le_trans, le_of_suc-le-suc, eq-or-lt_of_le, not-suc-le-zero}
-use native.Mathlib.Numerals.{add-one}
+use native.Mathlib.Nat.{le-add_right}
 use native.Mathlib.Omega.{arith}
 use borrow.Author.Tests.{leb-true, ltb-true, le-leb, lt-ltb, le-ltb, ltb-false, eqb-true}
 use lib.Dec.{leb, ltb, eqb}
@@ -24,10 +23,13 @@ use Rattle.tables.specs.Tables.{data_front, enrolment_data, debit_data, enrolmen
 use Rattle.tables.proofs.Fronts.{front-row}
 use Rattle.kinds.proofs.Forms.{of-form}
 use Rattle.tables.proofs.Tiling.{rows-tile}
-use Rattle.rows.specs.Laid.{most, laid_out}
-use Rattle.rows.proofs.Laying.{laid-length, laid-row, first-laid, rows_fit}
+use Rattle.std.specs.List.{find}
+use Rattle.std.specs.Option.{unwrap_or}
+use Rattle.std.specs.Prelude.{Option}
+use Rattle.std.proofs.lemmas.Option.{unwrap_or-slice_get}
+use Rattle.laws.proofs.Positions.{find_least}
 use Rattle.builder.specs.Bytes.{over_row, over, row_over}
-use Rattle.builder.proofs.Rows.{laid-small}
+use Rattle.builder.proofs.Rows.{row-small}
 
 -- a row is over the places from its start to its end
 over-if : (r : Row) (j : ℕ) → r.1 ≤ j → j < r.1 + r.2 → over_row r j ≡ true
@@ -100,35 +102,6 @@ row-over k role j h =
     let t = (least-is (over rows j) (length rows)).holds l in
     (i, record { inside = l; is = refl; low = over-low (get_or rows i blank) j t; high = over-high (get_or rows i blank) j t })
 
--- the rows of a record begin one after the other
-next_start : (r : Row) (item start size : ℕ) → next r item start size ≡ true → start ≤ r.1
-unfolding next
-next_start r item start size t =
-    ⊎_elim
-    (λ h. omega (arith, eqb-true r.1 start (and_left (eqb r.1 start) (eqb r.2 size) (and_right (eqb r.0 item) _ h))))
-    (λ h. omega (arith, eqb-true r.1 (start + size) (and_right (eqb r.0 item || eqb r.0 (item + 1)) (eqb r.1 (start + size)) h)))
-    (or_cases (eqb r.0 item && (eqb r.1 start && eqb r.2 size)) ((eqb r.0 item || eqb r.0 (item + 1)) && eqb r.1 (start + size)) t)
-
-start-least :
-    (whole item start size : ℕ) (rows : List Row) → tiles_from whole item start size rows ≡ true → (i : ℕ) → i < length rows → start ≤ (get_or rows i blank).1
-unfolding tiles_from
-start-least whole item start size [] t i h = absurd (not-suc-le-zero h)
-start-least whole item start size (r ∷ rows) t zero h = next_start r item start size (and_left (next r item start size) _ t)
-start-least whole item start size (r ∷ rows) t (suc i) h =
-    le_trans (next_start r item start size (and_left (next r item start size) _ t))
-    (start-least whole r.0 r.1 r.2 rows (and_right (next r item start size) _ t) i (le_of_suc-le-suc h))
-
-starts-rise :
-    (whole item start size : ℕ) (rows : List Row) → tiles_from whole item start size rows ≡ true →
-    (m i : ℕ) → m < i → i < length rows → (get_or rows m blank).1 ≤ (get_or rows i blank).1
-unfolding tiles_from
-starts-rise whole item start size [] t m i l h = absurd (not-suc-le-zero h)
-starts-rise whole item start size (r ∷ rows) t m zero l h = absurd (not-suc-le-zero l)
-starts-rise whole item start size (r ∷ rows) t zero (suc i) l h =
-    start-least whole r.0 r.1 r.2 rows (and_right (next r item start size) _ t) i (le_of_suc-le-suc h)
-starts-rise whole item start size (r ∷ rows) t (suc m) (suc i) l h =
-    starts-rise whole r.0 r.1 r.2 rows (and_right (next r item start size) _ t) m i (le_of_suc-le-suc l) (le_of_suc-le-suc h)
-
 -- row m ends past the start of row i
 unfoldable pub ends_past : List Row → ℕ → ℕ → Bool
 ends_past rows i m = ltb (get_or rows i blank).1 ((get_or rows m blank).1 + (get_or rows m blank).2)
@@ -180,69 +153,15 @@ pub front-third : (k : Kind) (j : ℕ) → 9 ≤ j → j < 19 → get_or data_fr
 unfolding data_front
 front-third k j g h = sym (over-of (rows_of k Data) 2 j (get_or data_front 2 blank) (front-starts k 2 (omega arith)) (front-row k Data 2 (omega arith)) g h)
 
--- the rows laid out have the same row over a place
-pub over-laid : (rows : List Row) → length rows ≤ most → (j : ℕ) → row_over (laid_out rows) j ≡ row_over rows j
-unfolding row_over over
-over-laid rows h j = first-laid (λ r. over_row r j) rows h
-
 -- it is small
-laid-over-small : (k : Kind) (role : Role) (j : ℕ) → (row_over (laid_out (rows_of k role)) j).1 + (row_over (laid_out (rows_of k role)) j).2 < 1000
-unfolding row_over
-laid-over-small k role j = laid-small k role (laid_out (rows_of k role)) refl _
-
 pub over-small : (k : Kind) (role : Role) (j : ℕ) → (row_over (rows_of k role) j).1 + (row_over (rows_of k role) j).2 < 1000
-over-small k role j = rw (← over-laid (rows_of k role) (rows_fit k role) j) (laid-over-small k role j)
+unfolding row_over
+over-small k role j = row-small k role _
 
--- a loop over a table that lays out a record's rows: no row before i is over place j so far
-module _ (k : Kind) (role : Role) (rows : List Row) (laid : rows ≡ laid_out (rows_of k role)) (j : ℕ) where
-  same_row : row_over rows j ≡ row_over (rows_of k role) j
-  same_row = rw laid (over-laid (rows_of k role) (rows_fit k role) j)
-
-  pub laid_stop : (i : ℕ) → i < most → least (over rows j) i ≡ i → over_row (get_or rows i blank) j ≡ true → get_or rows i blank ≡ row_over (rows_of k role) j
-  unfolding over row_over
-  laid_stop i h e t = rw (least-stop (over rows j) i (length rows) (omega (arith, laid-length k role rows laid)) e t) at same_row
-
--- a walk over the rows that are laid out, place by place: the rows before row i end at or before place j
-abbrev pub Ended : List Row → ℕ → ℕ → Type 0
-Ended rows i j = (m : ℕ) → m < i → (get_or rows m blank).1 + (get_or rows m blank).2 ≤ j
-
-pub ended-none : (rows : List Row) (j : ℕ) → Ended rows 0 j
-ended-none rows j m l = absurd (not-suc-le-zero l)
-
-pub ended-place : (rows : List Row) (i j : ℕ) → Ended rows i j → Ended rows i (j + 1)
-ended-place rows i j e m l = omega (arith, e m l)
-
-pub ended-row : (rows : List Row) (i j : ℕ) → Ended rows i j → (get_or rows i blank).1 + (get_or rows i blank).2 ≤ j → Ended rows (i + 1) j
-ended-row rows i j e h m l = ⊎_elim (λ q. rw q h) (λ b. e m b) (eq-or-lt_of_le (le_of_suc-le-suc (rw (add-one i) at l)))
-
-module _ (k : Kind) (role : Role) (rows : List Row) (laid_as : rows ≡ laid_out (rows_of k role)) (i j : ℕ) (h : j < (fixed_of k).size) (e : Ended rows i j) where
-  -- a row over place j, which is not before row i
-  abbrev m : ℕ
-  m = (row-over k role j h).0
-
-  abbrev o : Over (rows_of k role) j m
-  o = (row-over k role j h).1
-
-  no-later : i ≤ m
-  no-later =
-      ⊎_elim (λ t. absurd (omega (arith, rw (laid-row k role rows laid_as m) at (e m (ltb-true m i t)), o.high))) (λ f. ltb-false m i f)
-      (either (ltb m i))
-
-  -- so there is a row i, and it began
-  pub walk_inside : i < most
-  walk_inside = omega (arith, no-later, o.inside, rows_fit k role)
-
-  begun : (get_or rows i blank).1 ≤ j
-  unfolding tiles
-  begun =
-      rw (laid-row k role rows laid_as i)
-      (⊎_elim (λ q. rw q o.low) (λ l. le_trans (starts-rise (fixed_of k).size 0 0 0 (rows_of k role) (rows-tile k role) i m l o.inside) o.low)
-      (eq-or-lt_of_le no-later))
-
-  -- and where it has not ended it is the row over place j
-  pub walk-row : j < (get_or rows i blank).1 + (get_or rows i blank).2 → get_or rows i blank ≡ row_over (rows_of k role) j
-  unfolding over
-  walk-row l =
-      laid_stop k role rows laid_as j i walk_inside
-      (least-none (over rows j) i (λ m b. over-past (get_or rows m blank) j (e m b)))
-      (over-if (get_or rows i blank) j begun l)
+-- it is the one that `find` finds
+pub over-is :
+    (k : Kind) (role : Role) (j : ℕ) (rows : List Row) (r : Option Row) → rows ≡ rows_of k role → r ≡ find (λ r. over_row r j) rows →
+    unwrap_or r blank ≡ row_over (rows_of k role) j
+unfolding row_over over
+over-is k role j rows r of found =
+    rw (found, find_least (λ r. over_row r j) rows blank, of) (unwrap_or-slice_get (rows_of k role) (least (λ i. over_row (get_or (rows_of k role) i blank) j) (length (rows_of k role))) blank)

@@ -6,6 +6,7 @@ use Rattle.numbers.specs.Numbers.{digits_of, letter_of}
 use Rattle.kinds.specs.declared.of_files.Kind.{Kind}
 use Rattle.kinds.specs.declared.of_files.Role.TheVariants.{Header, Data, Trailer}
 use Rattle.tables.specs.declared.row.Row.{Row}
+use Rattle.builder.specs.declared.heads.Head as heads
 use Rattle.tables.specs.declared.totals.Quantity.{Quantity}
 use Rattle.kinds.specs.Kinds.{front, fixed_of}
 use Rattle.tables.specs.Tables.{rows_of}
@@ -23,6 +24,10 @@ pub record Head : Type 0 where
 
 abbrev pub head_of : List ℕ → List ℕ → List ℕ → List ℕ → Head
 head_of date code item6 item7 = record { date = date; code = code; item6 = item6; item7 = item7 }
+
+-- of what it is given in
+abbrev pub given : heads.Head → Head
+given h = head_of h.date.now h.code.now h.item6.now h.item7.now
 
 -- what is given for an item of the header: the code, the MMDD of the name, the date, items 6 and 7
 unfoldable pub given_item : Head → ℕ → List ℕ

@@ -9,27 +9,11 @@ pub(crate) fn fill(class: Class, given: u8, letter: u8, digit: u8, theirs: u8) -
     ensures { result ≡ fill_by class given letter digit theirs }
 {
     match class {
-        Class::Each(low, high) => { if low == high { low } else { given } }
-        Class::CodeText => given,
-        Class::Filled => given,
-        Class::Owner => given,
-        Class::Institution => given,
+        Class::Each(low, high) if low == high => low,
         Class::KindName => letter,
-        Class::Date => given,
-        Class::NameDate => given,
         Class::Serial => digit,
         Class::AsHeader => theirs,
-        Class::NotLater => given,
-        Class::Office => given,
-        Class::NotZero => given,
-        Class::Failed => given,
-        Class::FailedOrPart => given,
-        Class::Least => given,
-        Class::LongDate => given,
-        Class::HeaderFrom(_) => given,
-        Class::Extension => given,
-        Class::PassbookForm => given,
-        Class::OneOf(_, _, _) => given,
+        _ => given,
     }
 }
 

@@ -4,3 +4,4 @@
 mod building;
 mod bytes;
 pub mod files;
+pub mod heads;

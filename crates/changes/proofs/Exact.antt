@@ -14,7 +14,7 @@ use Rattle.laws.proofs.Bools.{and_left, and_right, and_both, or_cases, or_left, 
 use Rattle.laws.proofs.Leasts.{least-is}
 use Rattle.answers.specs.declared.told.Answer.{Answer}
 use Rattle.answers.specs.Answers.{accepted, refused, refused_at, refuses, first_told, ◌then◌}
-use Rattle.answers.proofs.Refusals.{number_of, refuses-zero, refuses-other, then-first, then-second, tested, told, told-stop, so_far, all_told, told-all, First, Good}
+use Rattle.answers.proofs.Refusals.{number_of, refuses-zero, refuses-other, then-first, then-second, told, told-stop, so_far, all_told, told-all, First, Good}
 use Rattle.kinds.specs.Kinds.{EB11}
 use Rattle.tables.specs.declared.row.Row.{Row}
 use Rattle.tables.specs.Rows.{blank}
@@ -32,7 +32,7 @@ use Rattle.changes.specs.Answers.{our_codes, is_answer, is_no, says_no, apart, a
 use Rattle.changes.specs.Deciding.{has_other, lonely, split, lonely_told, split_told, answered_told, decided}
 use Rattle.changes.specs.Says.{Alone, Given, Split, Paired, Replied, Tells, SomeAlone, SomeSplit, Whole}
 use Rattle.changes.proofs.Found.{other-is, other_half}
-use Rattle.changes.proofs.Told.{answers-many}
+use Rattle.changes.proofs.Told.{answers-many, each-told, told-each, first-51}
 
 -- a record that is alone
 module _ (s : List ℕ) (i : ℕ) (h : i < data_of EB11 s) where
@@ -132,37 +132,24 @@ module _ (answers : List ℕ) (n : ℕ) where
   is-answer a x =
       ⊎_elim (λ e. or_left (eqb a 0) (is_among our_codes a) (eq-eqb a 0 e)) (λ u. or_right (eqb a 0) (is_among our_codes a) ((among-exactly our_codes a).1 u)) x
 
-  each-told : (i : ℕ) → (answer_told answers i).number ≡ 0 → is_answer (get_or answers i 0) ≡ true
-  unfolding answer_told
-  each-told i z = tested (is_answer (get_or answers i 0)) (refused 51) (λ o. omega arith) z
-
-  told-each : (i : ℕ) → is_answer (get_or answers i 0) ≡ true → (answer_told answers i).number ≡ 0
-  unfolding answer_told
-  told-each i t = rw t
-
   given-if : (answers_told answers n).number ≡ 0 → Given answers n
   unfolding answers_told
   given-if z =
       let many = answers-many answers n z in
       let all = all_told (answer_told answers) n (rw (eq-eqb (length answers) n many) at z) in
-      record { many = many; each = λ i h. answer-is (get_or answers i 0) (each-told i (all i h)) }
+      record { many = many; each = λ i h. answer-is (get_or answers i 0) (each-told answers i (all i h)) }
 
   if-given : Given answers n → answers_told answers n ≡ accepted
   unfolding answers_told
   if-given g =
       rw (eq-eqb (length answers) n g.many)
-      (told-all (answer_told answers) n (λ i h. told-each i (is-answer (get_or answers i 0) (g.each i h))))
+      (told-all (answer_told answers) n (λ i h. told-each answers i (is-answer (get_or answers i 0) (g.each i h))))
 
   -- all that is told is 51
-  first-51 : ((first_told (answer_told answers) n).number ≡ 0 → ⊥) → first_told (answer_told answers) n ≡ refused 51
-  unfolding answer_told
-  first-51 ne =
-      ⊎_elim (λ g. absurd (ne (number_of g.told))) (λ x. x.1.told ∙ ⊎_elim (λ t. absurd (x.1.bad (rw t))) (λ f. rw f) (either (is_answer (get_or answers x.0 0)))) (told (answer_told answers) n)
-
   only-51 : ((answers_told answers n).number ≡ 0 → ⊥) → answers_told answers n ≡ refused 51
   unfolding answers_told
   only-51 ne =
-      ⊎_elim (λ t. rw t (first-51 (λ z. ne (rw t z)))) (λ f. rw f) (either (eqb (length answers) n))
+      ⊎_elim (λ t. rw t (first-51 answers n (λ z. ne (rw t z)))) (λ f. rw f) (either (eqb (length answers) n))
 
 module _ (s answers : List ℕ) where
   -- the last stage

@@ -1,15 +1,18 @@
 -- A record's other half has the key that is asked for it, so it is found by that key, and there is no other.
 -- Assumes nothing.
 use Prim.Native.Nat.{ℕ, ◌+◌, ◌*◌, ◌≤◌, ◌<◌}
-use mathlib.Core.Bool.{true, false, not, ◌&&◌}
+use mathlib.Core.Bool.{true, false, cond, not, ◌&&◌}
 use mathlib.Core.List.{List, [], ◌∷◌, append-nil}
 use mathlib.Core.Logic.{⊎_elim}
 use mathlib.Core.Path.{◌≡◌, refl, sym, ◌∙◌, ap}
+use native.Mathlib.Nat.{le_refl}
 use native.Mathlib.Omega.{arith}
-use borrow.Author.Tests.{eqb-true, not-true}
+use borrow.Author.Tests.{eqb-true, not-true, lt-ltb, le-ltb, ltb-true, ltb-false}
 use lib.Dec.{eqb}
 use lib.ListN.{length, replicate}
 use lib.Seq.{drop-cons}
+use Rattle.std.specs.Prelude.{Some, None}
+use Rattle.std.specs.Bool.{then_some}
 use Rattle.laws.specs.Least.{least}
 use Rattle.laws.specs.Part.{part, same}
 use Rattle.laws.specs.Stored.{stored}
@@ -19,9 +22,9 @@ use Rattle.laws.proofs.Parts.{part_length, same-equal, same_self}
 use Rattle.laws.proofs.Stores.{stored-over}
 use Rattle.kinds.specs.Kinds.{EB11}
 use Rattle.tables.specs.Places.{member_place, bank_place, holding_place}
-use Rattle.keys.specs.Keys.{has_key_in, place_in}
+use Rattle.keys.specs.Keys.{has_key_in, place_in, below}
 use Rattle.keys.specs.Stands.{key_in}
-use Rattle.keys.proofs.Found.{has_key, key_has}
+use Rattle.keys.proofs.Found.{has_key, key_has, below-some, below_none}
 use Rattle.layout.specs.Items.{bytes_at, application_of}
 use Rattle.records.specs.Records.{record_at, count_of, data_of, key_at}
 use Rattle.records.proofs.Places.{record-inside}
@@ -30,6 +33,7 @@ use Rattle.reader.specs.Meets.{Meets}
 use Rattle.reader.proofs.Places.{key-place}
 use Rattle.changes.specs.Halves.{changes, opposite, same_payer, moves, halves, record_in, halves_in, other_of}
 use Rattle.changes.specs.Keyed.{other_kind, other_key, Keyed}
+use Rattle.changes.specs.Deciding.{has_other}
 
 -- the key is stored behind the other kind
 pub key-stored : (kind : ℕ) (payer : List ℕ) → length payer ≡ 20 → stored 1 payer (replicate 21 kind) ≡ kind ∷ payer
@@ -154,10 +158,27 @@ module _ (s : List ℕ) (good : Meets EB11 s) where
     found_none : (at < n → halves_in s i at ≡ false) → n ≡ other_of s i
     found_none f = sym (other_none i (λ j h. ⊎_elim (λ t. absurd (clash t (rw (here j h t) at (f (rw (here j h t) h))))) (λ g. g) (either (halves_in s i j))))
 
--- the same of n records whose keys are chained
-module _ (s : List ℕ) (n : ℕ) (links : List ℕ) (k : Keyed s n links) (i at : ℕ) (found : at ≡ place_in (key_in [] (spacing_of EB11) s) n (other_key (record_in s i))) where
-  pub keyed-other : at < n → halves_in s i at ≡ true → at ≡ other_of s i
-  keyed-other h t = found-other s k.meets i at (rw k.all at found) (rw k.all at h) t
+-- the same of n records whose keys are chained: what is found, if anything is
+module _ (s : List ℕ) (n : ℕ) (links : List ℕ) (k : Keyed s n links) (i : ℕ) where
+  abbrev place : ℕ
+  place = place_in (key_in [] (spacing_of EB11) s) n (other_key (record_in s i))
 
-  pub keyed-none : (at < n → halves_in s i at ≡ false) → n ≡ other_of s i
-  keyed-none f = k.all ∙ found_none s k.meets i at (rw k.all at found) (λ h. f (rw k.all h))
+  all-same : place ≡ place_in (key_in [] (spacing_of EB11) s) (data_of EB11 s) (other_key (record_in s i))
+  all-same = rw k.all
+
+  none-other : (place < data_of EB11 s → halves_in s i place ≡ false) → None ≡ cond (has_other s i) (Some (other_of s i)) None
+  unfolding has_other
+  none-other f = rw (← found_none s k.meets i place all-same f, le-ltb (data_of EB11 s) (data_of EB11 s) (le_refl _))
+
+  pub keyed_other : (j : ℕ) → Some j ≡ below n place → then_some (halves_in s i j) j ≡ cond (has_other s i) (Some (other_of s i)) None
+  unfolding has_other
+  keyed_other j e = ⊎_elim other (λ f. rw f (none-other (λ h. rw (below-some n place j e).1 f))) (either (halves_in s i j))
+    where
+      other : halves_in s i j ≡ true → then_some (halves_in s i j) j ≡ cond (has_other s i) (Some (other_of s i)) None
+      other t =
+          let at = (below-some n place j e).1 in
+          let h : place < data_of EB11 s = omega (arith, k.all, ltb-true place n (below-some n place j e).0) in
+          rw (t, ← at) (rw (← found-other s k.meets i place all-same h (rw at t), lt-ltb place (data_of EB11 s) h))
+
+  pub keyed_none : None ≡ below n place → None ≡ cond (has_other s i) (Some (other_of s i)) None
+  keyed_none e = none-other (λ h. absurd (omega (arith, k.all, h, ltb-false place n (below_none n place e))))

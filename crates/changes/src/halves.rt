@@ -1,4 +1,6 @@
 // Two records of an EB11 that are the halves of one change.
+#![tactic(auto, unfolding(crate::specs::Halves::changes, crate::specs::Halves::opposite, crate::specs::Halves::same_payer, crate::specs::Halves::moves, crate::specs::Halves::halves, crate::specs::Keyed::other_kind), using(laws::proofs::Positions::same_pointwise))]
+
 ghost use Rattle.std.specs.Prelude.{◌≡◌, ◌≤◌, length};
 ghost use Rattle.changes.specs.Halves.{changes, opposite, moves, halves, same_payer};
 ghost use Rattle.changes.specs.Keyed.{other_kind, other_key};
@@ -19,10 +21,7 @@ pub(crate) fn changes(rec: &[u8]) -> bool
 fn opposite(a: u8, b: u8) -> bool
     ensures { result ≡ opposite a b }
 {
-    if a == b'3' {
-        return b == b'1';
-    }
-    a == b'1' && b == b'3'
+    matches!((a, b), (b'3', b'1') | (b'1', b'3'))
 }
 
 // Another branch or another account.
@@ -31,10 +30,8 @@ fn moves(a: &[u8], b: &[u8]) -> bool
     requires in_bounds_2 { 120 ≤ length b.now }
     ensures { result ≡ moves a.now b.now }
 {
-    if parts::same(parts::part(a, 46, 7), parts::part(b, 46, 7)) {
-        return !parts::same(parts::part(a, 53, 16), parts::part(b, 53, 16));
-    }
-    true
+    parts::part(a, 46, 7) != parts::part(b, 46, 7)
+        || parts::part(a, 53, 16) != parts::part(b, 53, 16)
 }
 
 // The payer is the same.
@@ -43,7 +40,7 @@ fn one_payer(a: &[u8], b: &[u8]) -> bool
     requires in_bounds_2 { 120 ≤ length b.now }
     ensures { result ≡ same_payer a.now b.now }
 {
-    parts::same(parts::part(a, 26, 20), parts::part(b, 26, 20))
+    parts::part(a, 26, 20) == parts::part(b, 26, 20)
 }
 
 // The two records are the halves of one change.
@@ -52,19 +49,14 @@ pub(crate) fn halves(a: &[u8], b: &[u8]) -> bool
     requires in_bounds_2 { 120 ≤ length b.now }
     ensures { result ≡ halves a.now b.now }
 {
-    if !changes(a) {
-        return false;
-    }
-    if !changes(b) {
-        return false;
-    }
-    if opposite(
-        parts::byte(a, items::APPLICATION),
-        parts::byte(b, items::APPLICATION),
-    ) {
-        return one_payer(a, b) && moves(a, b);
-    }
-    false
+    changes(a)
+        && changes(b)
+        && opposite(
+            parts::byte(a, items::APPLICATION),
+            parts::byte(b, items::APPLICATION),
+        )
+        && one_payer(a, b)
+        && moves(a, b)
 }
 
 // The key that the other half must have: the other kind, and the same payer.
@@ -81,8 +73,5 @@ pub(crate) fn other_key(rec: &[u8]) -> [u8; 21]
 fn other_kind(kind: u8) -> u8
     ensures { result ≡ other_kind kind }
 {
-    if kind == b'3' {
-        return b'1';
-    }
-    b'3'
+    if kind == b'3' { b'1' } else { b'3' }
 }

@@ -1,97 +1,97 @@
 // The other half of a record in its file, found by the key that it must have.
-ghost use Rattle.std.specs.Prelude.{◌≡◌, ◌<◌, length};
+ghost use Rattle.std.specs.Prelude.{◌≡◌, ◌<◌, [], Some, None, cond, length};
+ghost use Rattle.std.specs.Option.{IfSome};
+ghost use Rattle.kinds.specs.Kinds.{EB11};
 ghost use Rattle.answers.specs.Answers.{first_told};
-ghost use Rattle.changes.specs.Halves.{other_of};
+ghost use Rattle.answers.specs.Refusing.{answer_of};
+ghost use Rattle.keys.specs.Stands.{key_in};
+ghost use Rattle.keys.specs.Keyed.{key_of};
+ghost use Rattle.reader.specs.Keys.{spacing_of};
+ghost use Rattle.changes.specs.Halves.{record_in, other_of};
 ghost use Rattle.changes.specs.Keyed.{Keyed};
-ghost use Rattle.changes.specs.Deciding.{lonely_told, split_told};
+ghost use Rattle.changes.specs.Deciding.{has_other, lonely_told, split_told};
 
 use crate::{codes, halves};
-use answers::told::Answer;
-use keys::places;
+use answers::refusing::Refusal;
+use keys::linked::Linked;
 use kinds::of_files::Kind;
-use reader::repeats;
 use records::listed;
 
-// The place of the other half of record i + 1 among the n records; n where there is none.
-fn other_of(file: &[u8], n: usize, links: &[u16], i: usize) -> usize
-    requires keyed { Keyed file.now n links.now }
-    requires i_lt_n { i < n }
-    ensures { result ≡ other_of file.now i }
-{
-    let rec = listed::record_of(Kind::EB11, file, i + 1);
-    let key = halves::other_key(rec);
-    let none: [u32; 0] = [];
-    let spacing = repeats::spacing(Kind::EB11);
-    let j = places::place(file, &none, spacing, n, links, &key);
-    if j < n {
-        if halves::halves(rec, listed::record_of(Kind::EB11, file, j + 1)) {
-            return j;
-        }
-    }
-    n
+// An accepted EB11, its records by their keys.
+#[derive(Clone, Copy)]
+pub(crate) struct Enrolled<'a> {
+    pub file: &'a [u8],
+    pub linked: Linked<'a>,
+    ghost keyed: { Keyed file.now linked.keys.n linked.links.now },
+    ghost spaced: { key_of linked.keys ≡ key_in [] (spacing_of EB11) file.now },
 }
 
-// 50 at record i + 1, where it says "CHNG" and has no other half.
-fn lonely_tells(file: &[u8], n: usize, links: &[u16], i: usize) -> Answer
-    requires keyed { Keyed file.now n links.now }
-    requires i_lt_n { i < n }
-    ensures { result ≡ lonely_told file.now i }
-{
-    if halves::changes(listed::record_of(Kind::EB11, file, i + 1)) {
-        if other_of(file, n, links, i) < n {
-            return Answer::accepted();
-        }
-        return Answer::refused_at(50, (i + 1) as u64, 10, Answer::UNUSED);
+impl<'a> Enrolled<'a> {
+    // Record i + 1.
+    fn record(self, i: usize) -> &'a [u8]
+        requires { i < self.linked.keys.n }
+        ensures value { result.now ≡ record_in self.entry.file.now i }
+        ensures result_len { length result.now ≡ 120 }
+    {
+        listed::record_of(Kind::EB11, self.file, i + 1)
     }
-    Answer::accepted()
-}
 
-// The first record that says "CHNG" and has no other half.
-pub(crate) fn changes_tell(file: &[u8], n: usize, links: &[u16]) -> Answer
-    requires { Keyed file.now n links.now }
-    ensures { result ≡ first_told (lonely_told file.now) n }
-{
-    let mut i = 0;
-    while i < n {
-        let answer = lonely_tells(file, n, links, i);
-        if answer.number != 0 {
-            return answer;
-        }
-        i += 1;
+    // The place of the other half of record i + 1 among the records, where there is one.
+    fn other_of(self, i: usize) -> Option<usize>
+        requires { i < self.linked.keys.n }
+        ensures value { result ≡ cond (has_other self.entry.file.now i) (Some (other_of self.entry.file.now i)) None }
+        ensures upper_bound { IfSome result (λ j. j < self.entry.linked.keys.n) }
+    {
+        let rec = self.record(i);
+        let j = self.linked.place(&halves::other_key(rec))?;
+        halves::halves(rec, self.record(j)).then_some(j)
     }
-    Answer::accepted()
-}
 
-// 52 at record i + 1, where its other half has another answer: a yes against a no.
-fn split_tells(file: &[u8], answers: &[u64], n: usize, links: &[u16], i: usize) -> Answer
-    requires keyed { Keyed file.now n links.now }
-    requires answers_len { length answers.now ≡ n }
-    requires i_lt_n { i < n }
-    ensures { result ≡ split_told file.now answers.now i }
-{
-    let j = other_of(file, n, links, i);
-    if j < n {
-        if codes::apart(answers[i], answers[j]) {
-            return Answer::refused_at(52, (i + 1) as u64, 10, Answer::UNUSED);
+    // 50 at record i + 1, where it says "CHNG" and has no other half.
+    #[tactic(auto, unfolding(crate::specs::Deciding::lonely_told, crate::specs::Deciding::lonely))]
+    fn lonely_tells(self, i: usize) -> Result<(), Refusal>
+        requires { i < self.linked.keys.n }
+        ensures { answer_of result ≡ lonely_told self.entry.file.now i }
+    {
+        if halves::changes(self.record(i)) && self.other_of(i).is_none() {
+            return Err(Refusal::Lonely((i + 1) as u64));
         }
-        return Answer::accepted();
+        Ok(())
     }
-    Answer::accepted()
-}
 
-// The first record whose other half has another answer.
-pub(crate) fn splits_tell(file: &[u8], answers: &[u64], n: usize, links: &[u16]) -> Answer
-    requires keyed { Keyed file.now n links.now }
-    requires answers_len { length answers.now ≡ n }
-    ensures { result ≡ first_told (split_told file.now answers.now) n }
-{
-    let mut i = 0;
-    while i < n {
-        let answer = split_tells(file, answers, n, links, i);
-        if answer.number != 0 {
-            return answer;
+    // The first record that says "CHNG" and has no other half.
+    pub fn changes_tell(self) -> Result<(), Refusal>
+        ensures { answer_of result ≡ first_told (lonely_told self.entry.file.now) self.entry.linked.keys.n }
+    {
+        for i in 0..self.linked.keys.n {
+            self.lonely_tells(i)?;
         }
-        i += 1;
+        Ok(())
     }
-    Answer::accepted()
+
+    // 52 at record i + 1, where its other half has another answer: a yes against a no.
+    #[tactic(auto, unfolding(crate::specs::Deciding::split_told, crate::specs::Deciding::split))]
+    fn split_tells(self, answers: &[u64], i: usize) -> Result<(), Refusal>
+        requires answers_len { length answers.now ≡ self.linked.keys.n }
+        requires i_lt_n { i < self.linked.keys.n }
+        ensures { answer_of result ≡ split_told self.entry.file.now answers.now i }
+    {
+        match self.other_of(i) {
+            Some(j) if codes::apart(answers[i], answers[j]) => {
+                Err(Refusal::Split((i + 1) as u64))
+            }
+            _ => Ok(()),
+        }
+    }
+
+    // The first record whose other half has another answer.
+    pub fn splits_tell(self, answers: &[u64]) -> Result<(), Refusal>
+        requires { length answers.now ≡ self.linked.keys.n }
+        ensures { answer_of result ≡ first_told (split_told self.entry.file.now answers.now) self.entry.linked.keys.n }
+    {
+        for i in 0..self.linked.keys.n {
+            self.split_tells(answers, i)?;
+        }
+        Ok(())
+    }
 }

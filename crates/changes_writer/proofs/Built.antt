@@ -1,7 +1,7 @@
 -- How long the records of an EB12 are, and how many.
 -- Assumes nothing.
 use Prim.Native.Nat.{ℕ, zero, suc, ◌+◌, ◌-◌, ◌*◌, ◌≤◌, ◌<◌}
-use mathlib.Core.Bool.{true, false}
+use mathlib.Core.Bool.{true, false, cond, not}
 use mathlib.Core.List.{List, [], ◌++◌, append_assoc}
 use mathlib.Core.Logic.{⊎_elim}
 use mathlib.Core.Path.{◌≡◌, refl, sym, ◌∙◌, ap}
@@ -9,13 +9,15 @@ use native.Mathlib.Nat.{zero-add, le_refl}
 use native.Mathlib.Numerals.{add-one}
 use native.Mathlib.Omega.{arith}
 use borrow.Author.Tests.{eq-eqb, ne_eqb, ltb-true, ltb-false}
-use lib.Dec.{ltb}
+use lib.Dec.{eqb, ltb}
 use lib.ListN.{length, get_or, replicate, length-append}
+use Rattle.std.specs.Prelude.{count_by}
 use Rattle.laws.specs.Joined.{joined}
 use Rattle.laws.specs.Stored.{stored}
 use Rattle.laws.specs.Sum.{sum}
 use Rattle.laws.proofs.Bools.{either}
 use Rattle.laws.proofs.Joins.{joined-more}
+use Rattle.laws.proofs.Positions.{sum_places}
 use Rattle.laws.proofs.Parts.{part_length}
 use Rattle.laws.proofs.Stores.{stored-length, stored_next, stored-then, stored-none}
 use Rattle.laws.proofs.Sums.{sum-start, sum_more, sum-up, sum_bound}
@@ -74,6 +76,11 @@ unfolding refused_to one_if
 refused-most answers n =
     let most = sum_bound (one_if answers) 1 n (λ k h. ⊎_elim (λ t. rw t (le_refl 1)) (λ f. rw f (omega arith)) (either (says_no answers k))) in
     omega (arith, most)
+
+-- as many are refused as answers are no yes
+pub refused_all : (answers : List ℕ) → count_by (λ a. not (eqb a 0)) answers ≡ refused_to answers (length answers)
+unfolding refused_to one_if says_no is_no
+refused_all answers = sum_places (λ a. cond (not (eqb a 0)) 1 0) answers 0
 
 -- each record has 120 bytes
 pub refused-length : (rec : List ℕ) (serial code : ℕ) → length rec ≡ 120 → length (refused_for rec serial code) ≡ 120

@@ -2,7 +2,8 @@
 -- Assumes nothing.
 use Prim.Native.Nat.{ℕ, ◌+◌, ◌*◌}
 use mathlib.Core.List.{List}
-use mathlib.Core.Path.{◌≡◌, sym, ◌∙◌, ap}
+use mathlib.Core.Path.{◌≡◌}
+use native.Mathlib.Omega.{arith}
 use lib.ListN.{length}
 use Rattle.changes.specs.Deciding.{decided}
 use Rattle.changes.proofs.Told.{decided-stages, decided-many}
@@ -14,5 +15,5 @@ module _ (s answers : List ℕ) (z : (decided s answers).number ≡ 0) where
   decided-ready = record { meets = (decided-stages s answers z).meets; many = decided-many s answers z }
 
   -- 120 bytes for each refused record, and for the header and the trailer
-  pub size_is : (m : ℕ) → m ≡ refused_to answers (length answers) → m * 120 + 240 ≡ length (file_for s answers)
-  size_is m e = ap (λ (x : ℕ). x * 120 + 240) e ∙ sym (file-length s answers decided-ready)
+  pub size_is : (m : ℕ) → m ≡ refused_to answers (length answers) → (m + 2) * 120 ≡ length (file_for s answers)
+  size_is m e = omega (arith, e, file-length s answers decided-ready)

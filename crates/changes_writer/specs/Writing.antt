@@ -1,9 +1,8 @@
 -- What answering an EB11 says, and what is stored.
 use Rattle.std.specs.Prelude.{ℕ, List, length}
 use Rattle.answers.specs.declared.told.Answer.{Answer}
-use Rattle.answers.specs.declared.told.Stored.{Stored}
+use Rattle.answers.specs.Storing.{Stored, room_tells, unless_refused, storing, at_front}
 use Rattle.answers.specs.Answers.{◌then◌}
-use Rattle.answers.specs.Storing.{room_tells, unless_refused, storing, at_front}
 use Rattle.changes.specs.Deciding.{decided}
 use Rattle.changes_writer.specs.Building.{file_for}
 

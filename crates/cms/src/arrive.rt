@@ -4,6 +4,7 @@ ghost use Rattle.arrival.specs.Arriving.{part_told, number_of, room_with, state_
 ghost use Rattle.arrival.specs.Ending.{end_told, state_ended};
 ghost use Rattle.telling.specs.Numbers.{five};
 
+use answers::told::Answer;
 use arrival::{arriving, ending};
 use telling::answer::tell;
 
@@ -32,6 +33,6 @@ pub extern "C" fn cms_end(
     ensures room_unchanged { room.new ≡ room.old }
     ensures answer_after { answer.new ≡ five (end_told kind state.old room.old) }
 {
-    let told = ending::end(kind as u64, state, room);
+    let told = Answer::of(ending::end(kind as u64, state, room));
     tell(told, answer)
 }

@@ -3,6 +3,7 @@ ghost use Rattle.std.specs.Prelude.{◌≡◌};
 ghost use Rattle.dues.specs.Posting.{board_told, board_after, dates_after};
 ghost use Rattle.telling.specs.Numbers.{five};
 
+use answers::told::Answer;
 use payers::members::Member;
 use telling::answer::tell;
 
@@ -19,7 +20,8 @@ pub extern "C" fn cms_board_post(
     ensures { (result ≡ (board_told pair request.now res.now board.old dates.old).number) × ((board.new ≡ board_after pair request.now res.now board.old dates.old) × ((dates.new ≡ dates_after pair request.now res.now board.old dates.old) × (answer.new ≡ five (board_told pair request.now res.now board.old dates.old)))) }
 {
     let posted = board::posting::post(pair as u64, request, res, board, *dates);
-    let days = posted.dates;
-    *dates = days;
-    tell(posted.answer, answer)
+    if let Ok(days) = posted {
+        *dates = days;
+    }
+    tell(Answer::of_two(posted), answer)
 }

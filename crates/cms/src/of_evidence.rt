@@ -9,6 +9,7 @@ ghost use Rattle.telling.specs.Numbers.{five, six, eight_for};
 ghost use Rattle.cms.specs.Profiles.{is_exempt};
 ghost use Rattle.cms.specs.Yes.{yes_of};
 
+use answers::told::Answer;
 use consent::comparing;
 use evidence::{lying, reading};
 use evidence_writer::writing;
@@ -26,7 +27,8 @@ pub extern "C" fn cms_evidence_read(profile: u32, file: &[u8], answer: &mut [u64
     ensures value { result ≡ (read_of (is_exempt profile) file.now).number }
     ensures answer_after { answer.new ≡ five (read_of (is_exempt profile) file.now) }
 {
-    tell(reading::read(profile != 0, file), answer)
+    let told = Answer::of(reading::read(profile != 0, file));
+    tell(told, answer)
 }
 
 // Where the evidence of one record lies, by its record number. Returns the refusal's number, 0 when accepted.
@@ -74,7 +76,7 @@ pub extern "C" fn cms_evidence_compare(
     ensures value { result ≡ (compare_of (is_exempt profile) enrolments.now evidence.now).number }
     ensures answer_after { answer.new ≡ five (compare_of (is_exempt profile) enrolments.now evidence.now) }
 {
-    let told = comparing::compare(profile != 0, enrolments, evidence);
+    let told = Answer::of_two(comparing::compare(profile != 0, enrolments, evidence));
     tell(told, answer)
 }
 

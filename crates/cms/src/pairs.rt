@@ -5,6 +5,7 @@ ghost use Rattle.outcomes.specs.Outcomes.{outcome_told};
 ghost use Rattle.two_results.specs.Comparing.{story_told};
 ghost use Rattle.telling.specs.Numbers.{five, story_seven, ten};
 
+use answers::told::Answer;
 use outcomes::asking;
 use pair::pairing;
 use telling::answer::{tell, tell_story};
@@ -26,7 +27,7 @@ pub extern "C" fn cms_pair(
     ensures not_taken_after { not_taken.new ≡ not_taken_after pair request.now res.now (length taken.old) (length not_taken.old) not_taken.old }
     ensures answer_after { answer.new ≡ five (pair_told pair request.now res.now (length taken.old) (length not_taken.old)) }
 {
-    let told = pairing::pair(pair as u64, request, res, taken, not_taken);
+    let told = Answer::of_two(pairing::pair(pair as u64, request, res, taken, not_taken));
     tell(told, answer)
 }
 

@@ -3,6 +3,7 @@ ghost use Rattle.std.specs.Prelude.{◌≡◌};
 ghost use Rattle.reader.specs.Reading.{read_of};
 ghost use Rattle.telling.specs.Numbers.{five};
 
+use answers::told::Answer;
 use reader::reading;
 use telling::answer::tell;
 
@@ -12,5 +13,6 @@ pub extern "C" fn cms_read(kind: u32, file: &[u8], answer: &mut [u64; 5]) -> u64
     ensures value { result ≡ (read_of kind file.now).number }
     ensures answer_after { answer.new ≡ five (read_of kind file.now) }
 {
-    tell(reading::read(kind as u64, file), answer)
+    let told = Answer::of(reading::read(kind as u64, file));
+    tell(told, answer)
 }

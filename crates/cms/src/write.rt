@@ -4,6 +4,8 @@ ghost use Rattle.builder.specs.Records.{head_of};
 ghost use Rattle.writer.specs.Writing.{write_of, room_after};
 ghost use Rattle.telling.specs.Numbers.{five};
 
+use answers::told::Answer;
+use builder::heads::Head;
 use telling::answer::tell;
 use writer::writing;
 
@@ -23,6 +25,12 @@ pub extern "C" fn cms_write(
     ensures room_after { room.new ≡ room_after kind (head_of date.now code.now item6.now item7.now) bodies.now room.old }
     ensures answer_after { answer.new ≡ five (write_of kind (head_of date.now code.now item6.now item7.now) bodies.now (length room.old)) }
 {
-    let told = writing::write(kind as u64, date, code, item6, item7, bodies, room);
+    let head = Head {
+        date,
+        code,
+        item6,
+        item7,
+    };
+    let told = Answer::of(writing::write(kind as u64, head, bodies, room));
     tell(told, answer)
 }

@@ -13,14 +13,13 @@ use Rattle.laws.specs.Least.{least}
 use Rattle.laws.specs.Part.{part}
 use Rattle.laws.proofs.Leasts.{least-is, least-some}
 use Rattle.laws.proofs.Parts.{part_length, part_at, part_join}
-use Rattle.answers.specs.Answers.{accepted, first_told}
+use Rattle.answers.specs.Answers.{accepted, first_told, on_side}
 use Rattle.answers.proofs.Refusals.{number_of, then-second, then-zero, all_told, told-all}
 use Rattle.kinds.specs.Kinds.{EB13}
 use Rattle.records.specs.Records.{data_of, key_at}
 use Rattle.reader.specs.Reading.{read_as}
 use Rattle.reader.proofs.Accepted.{read-zero}
 use Rattle.reader.proofs.Exact.{read-exact}
-use Rattle.pair.specs.Pairing.{on_side}
 use Rattle.evidence.specs.Blocks.{records_in}
 use Rattle.evidence.specs.Judged.{byte_of}
 use Rattle.evidence.specs.Reading.{read_of}

@@ -6,18 +6,18 @@ use mathlib.Core.List.{List}
 use mathlib.Core.Path.{◌≡◌, ◌∙◌}
 use native.Mathlib.Omega.{arith}
 use lib.ListN.{length}
-use Rattle.answers.specs.Answers.{first_told, ◌then◌}
+use Rattle.answers.specs.Answers.{first_told, ◌then◌, on_side}
 use Rattle.answers.proofs.Refusals.{then-first, then-second}
 use Rattle.kinds.specs.Kinds.{EB13}
 use Rattle.records.specs.Records.{data_of}
 use Rattle.records.proofs.Places.{record-inside}
 use Rattle.reader.specs.Reading.{read_as}
 use Rattle.reader.proofs.Exact.{accepted-meets}
-use Rattle.pair.specs.Pairing.{on_side}
 use Rattle.evidence.specs.Blocks.{records_in}
 use Rattle.evidence.specs.Reading.{read_of}
 use Rattle.evidence.proofs.Walks.{block_inside}
-use Rattle.evidence.proofs.Looked.{sizes-good, read-good}
+use Rattle.evidence.proofs.Looked.{read-good}
+use Rattle.evidence.proofs.Stages.{size-good}
 use Rattle.consent.specs.Comparing.{headers_told, lacks_told, foreign_told, compare_of}
 
 module _ (exempt : Bool) (e s : List ℕ) where
@@ -35,7 +35,7 @@ module _ (exempt : Bool) (e s : List ℕ) where
 
     module _ (b : (read_of exempt s).number ≡ 0) where
       pub block-there : 1024 ≤ length s
-      block-there = omega (arith, block_inside s 0 (omega (arith, (sizes-good s (read-good exempt s b).0).fewest)))
+      block-there = omega (arith, block_inside s 0 (omega (arith, (size-good s (read-good exempt s b).0).fewest)))
 
       pub by-headers : ((headers_told e s).number ≡ 0 → ⊥) → compare_of exempt e s ≡ headers_told e s
       unfolding compare_of

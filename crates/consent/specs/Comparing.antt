@@ -3,11 +3,10 @@ use Rattle.std.specs.Prelude.{ℕ, ◌+◌, Bool, cond, ◌&&◌, List, ◌∷�
 use Rattle.laws.specs.Least.{none}
 use Rattle.laws.specs.Part.{part, same}
 use Rattle.answers.specs.declared.told.Answer.{Answer}
-use Rattle.answers.specs.Answers.{accepted, refused_at, first_told, ◌then◌}
+use Rattle.answers.specs.Answers.{accepted, refused_at, first_told, ◌then◌, on_side}
 use Rattle.kinds.specs.Kinds.{EB13}
 use Rattle.records.specs.Records.{record_of, data_of}
 use Rattle.reader.specs.Reading.{read_as}
-use Rattle.pair.specs.Pairing.{on_side}
 use Rattle.evidence.specs.Blocks.{records_in}
 use Rattle.evidence.specs.Reading.{key_of, read_of}
 

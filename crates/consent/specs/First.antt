@@ -2,11 +2,10 @@
 use Rattle.std.specs.Prelude.{ℕ, ◌+◌, ◌<◌, Bool, true, List, ◌≡◌}
 use Rattle.laws.specs.Part.{part}
 use Rattle.answers.specs.declared.told.Answer.{Answer}
-use Rattle.answers.specs.Answers.{accepted, refused_at}
+use Rattle.answers.specs.Answers.{accepted, refused_at, on_side}
 use Rattle.kinds.specs.Kinds.{EB13}
 use Rattle.records.specs.Records.{data_of}
 use Rattle.reader.specs.Reading.{read_as}
-use Rattle.pair.specs.Pairing.{on_side}
 use Rattle.evidence.specs.Blocks.{records_in}
 use Rattle.evidence.specs.Judged.{byte_of}
 use Rattle.evidence.specs.Reading.{read_of}

@@ -1,5 +1,5 @@
--- Which evidence was found: a list with a 1 at each evidence record that a new enrolment asks for.
-use Rattle.std.specs.Prelude.{ℕ, zero, suc, ◌+◌, ◌<◌, cond, List, ◌≡◌, ltb, eqb, get_or, set}
+-- Which evidence was found: a list that is true at each evidence record that a new enrolment asks for.
+use Rattle.std.specs.Prelude.{ℕ, zero, suc, ◌+◌, ◌<◌, Bool, true, false, cond, List, ◌≡◌, ltb, get_or, set}
 use Rattle.laws.specs.Least.{least}
 use Rattle.answers.specs.declared.told.Answer.{Answer}
 use Rattle.answers.specs.Answers.{accepted, refused_at, refuses_at}
@@ -19,10 +19,10 @@ unfoldable pub found_for : List ℕ → List ℕ → ℕ → ℕ
 found_for e s i = place_in (key_of s) (records_in s) (asked_by (enrolment e i))
 
 -- the marks with that of enrolment i + 1, and with those of the first i
-unfoldable pub marked_at : List ℕ → List ℕ → ℕ → List ℕ → List ℕ
-marked_at e s i l = cond (is_new e i) (cond (ltb (found_for e s i) (records_in s)) (set l (found_for e s i) 1) l) l
+unfoldable pub marked_at : List ℕ → List ℕ → ℕ → List Bool → List Bool
+marked_at e s i l = cond (is_new e i) (cond (ltb (found_for e s i) (records_in s)) (set l (found_for e s i) true) l) l
 
-unfoldable pub marked_to : List ℕ → List ℕ → ℕ → List ℕ → List ℕ
+unfoldable pub marked_to : List ℕ → List ℕ → ℕ → List Bool → List Bool
 marked_to e s zero l = l
 marked_to e s (suc i) l = marked_at e s i (marked_to e s i l)
 
@@ -31,8 +31,8 @@ unfoldable pub good_to : List ℕ → List ℕ → ℕ
 good_to e s = least (refuses_at (lacks_told e s)) (data_of EB13 e)
 
 -- 21 at evidence record j + 1, where it has no mark
-unfoldable pub unmarked_told : List ℕ → ℕ → Answer
-unmarked_told marks j = cond (eqb (get_or marks j 0) 0) (refused_at 21 (j + 1) 6 0x30303030) accepted
+unfoldable pub unmarked_told : List Bool → ℕ → Answer
+unmarked_told marks j = cond (get_or marks j false) accepted (refused_at 21 (j + 1) 6 0x30303030)
 
 -- a key of an evidence record: items 6 to 9, past the record's first byte
 abbrev pub key_spacing : Spacing

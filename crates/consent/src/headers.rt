@@ -1,8 +1,9 @@
 // The two headers, and the evidence that an enrolment asks for.
 ghost use Rattle.std.specs.Prelude.{◌≡◌, ◌≤◌, length};
+ghost use Rattle.answers.specs.Refusing.{answer_of};
 ghost use Rattle.consent.specs.Comparing.{long_date, asked_by, headers_told};
 
-use answers::told::Answer;
+use answers::refusing::Refusal;
 use text::parts;
 
 // Years are 20YY.
@@ -30,20 +31,17 @@ pub(crate) fn asked(rec: &[u8]) -> [u8; 61]
 }
 
 // 12: the institution codes, then the dates.
-pub(crate) fn headers_tell(enrolments: &[u8], evidence: &[u8]) -> Answer
+#[tactic(auto, using(laws::proofs::Positions::same_pointwise), unfolding(crate::specs::Comparing::headers_told))]
+pub(crate) fn headers_tell(enrolments: &[u8], evidence: &[u8]) -> Result<(), Refusal>
     requires in_bounds { 120 ≤ length enrolments.now }
     requires in_bounds_2 { 1024 ≤ length evidence.now }
-    ensures { result ≡ headers_told enrolments.now evidence.now }
+    ensures { answer_of result ≡ headers_told enrolments.now evidence.now }
 {
-    if parts::same(
-        parts::part(enrolments, 9, 10),
-        parts::part(evidence, 23, 10),
-    ) {
-        let date = long_date(parts::part(enrolments, 27, 6));
-        if parts::same(&date, parts::part(evidence, 15, 8)) {
-            return Answer::accepted();
-        }
-        return Answer::refused_at(12, 0, 5, Answer::UNUSED);
+    if parts::part(enrolments, 9, 10) != parts::part(evidence, 23, 10) {
+        return Err(Refusal::Headers(3));
     }
-    Answer::refused_at(12, 0, 3, Answer::UNUSED)
+    if long_date(parts::part(enrolments, 27, 6)).as_slice() != parts::part(evidence, 15, 8) {
+        return Err(Refusal::Headers(5));
+    }
+    Ok(())
 }

@@ -13,8 +13,7 @@ use Rattle.laws.proofs.Bools.{either, clash}
 use Rattle.laws.proofs.Parts.{same-equal, same_self}
 use Rattle.numbers.specs.Numbers.{word_of}
 use Rattle.kinds.specs.declared.of_files.Kind.{Kind}
-use Rattle.kinds.specs.declared.of_files.Named.{Named}
-use Rattle.kinds.specs.declared.of_files.Named.TheVariants.{Is, Unknown}
+use Rattle.std.specs.Prelude.{Option, Some, None}
 use Rattle.kinds.specs.Kinds.{fixed_of, daily_of}
 use Rattle.tables.proofs.Tiling.{size-least}
 use Rattle.answers.specs.Answers.{accepted, refused, refused_at, refuses}
@@ -29,20 +28,20 @@ use Rattle.day.specs.First.{BodySays, unknown, broken, other}
 -- a body that is accepted under a number is one of the kind that the number names
 record Known (kind : ℕ) (s : List ℕ) : Type 0 where
   k : Kind
-  named : daily_of kind ≡ Is k
+  named : daily_of kind ≡ Some k
   good : (read_as k s).number ≡ 0
 
 module _ (kind : ℕ) (s : List ℕ) where
-  named-known : (n : Named) → daily_of kind ≡ n → (read_named n s).number ≡ 0 → Known kind s
-  named-known (Is k) e z = record { k = k; named = e; good = z }
-  named-known Unknown e z = absurd (omega arith)
+  named-known : (n : Option Kind) → daily_of kind ≡ n → (read_named n s).number ≡ 0 → Known kind s
+  named-known (Some k) e z = record { k = k; named = e; good = z }
+  named-known None e z = absurd (omega arith)
 
   daily-known : (read_daily kind s).number ≡ 0 → Known kind s
   unfolding read_daily
   daily-known z = named-known (daily_of kind) refl z
 
   -- a kind of a day file is read as it is
-  daily-named : (k : Kind) → daily_of kind ≡ Is k → read_daily kind s ≡ read_as k s
+  daily-named : (k : Kind) → daily_of kind ≡ Some k → read_daily kind s ≡ read_as k s
   unfolding read_daily
   daily-named k e = rw e
 
@@ -74,11 +73,11 @@ module _ (name body : List ℕ) where
   good-body b = then-second _ _ (number_of b.good) ∙ rw (b.item4, same_self name)
 
   -- what is told of one that is refused
-  told-unknown : daily_of (word_of name) ≡ Unknown → body_told name body ≡ refused 1
+  told-unknown : daily_of (word_of name) ≡ None → body_told name body ≡ refused 1
   unfolding body_told read_daily
   told-unknown e = rw e (then-first (refused 1) (name_told name body) (λ q. omega arith))
 
-  module _ (k : Kind) (e : daily_of (word_of name) ≡ Is k) where
+  module _ (k : Kind) (e : daily_of (word_of name) ≡ Some k) where
     told-broken : ((read_as k body).number ≡ 0 → ⊥) → body_told name body ≡ read_as k body
     unfolding body_told
     told-broken ne = rw (daily-named (word_of name) body k e) (then-first (read_as k body) (name_told name body) ne)
@@ -109,9 +108,9 @@ module _ (name body : List ℕ) where
             (λ n. rw (told-name z ∙ name-other n) (other k e (read-zero k body z) (λ q. clash (rw q (same_self name)) n)))
             (either (same (part 19 8 body) name))
 
-  says-by : (n : Named) → daily_of (word_of name) ≡ n → ((body_told name body).number ≡ 0 → ⊥) → BodySays name body (body_told name body)
-  says-by Unknown e ne = rw (told-unknown e) (unknown e)
-  says-by (Is k) e ne = says-known k e ne
+  says-by : (n : Option Kind) → daily_of (word_of name) ≡ n → ((body_told name body).number ≡ 0 → ⊥) → BodySays name body (body_told name body)
+  says-by None e ne = rw (told-unknown e) (unknown e)
+  says-by (Some k) e ne = says-known k e ne
 
   pub body-says : ((body_told name body).number ≡ 0 → ⊥) → BodySays name body (body_told name body)
   body-says = says-by (daily_of (word_of name)) refl

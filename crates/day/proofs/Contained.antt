@@ -1,19 +1,20 @@
 -- The contents of a day: the test for them, and the names and lengths in them.
 -- Assumes nothing.
 use Prim.Native.Nat.{ℕ, ◌+◌, ◌≤◌, ◌<◌}
-use mathlib.Core.Bool.{true, ◌&&◌}
+use mathlib.Core.Bool.{true, false, ◌&&◌}
 use mathlib.Core.List.{List, [], ◌++◌}
-use mathlib.Core.Path.{◌≡◌}
-use mathlib.Core.Logic.{◌↔◌}
+use mathlib.Core.Path.{◌≡◌, sym, ◌∙◌}
+use mathlib.Core.Logic.{◌↔◌, ⊎_elim}
 use native.Mathlib.Nat.{le_trans}
 use native.Mathlib.Omega.{arith}
 use borrow.Author.Tests.{eqb-true, leb-true, eq-eqb, le-leb, not-false}
 use lib.Dec.{leb}
-use lib.ListN.{length, get_or, drop, replicate, length-append}
+use lib.ListN.{length, get_or, take, drop, replicate, length-append}
+use lib.Seq.{length-take-le, get_or-take}
 use Rattle.laws.specs.Least.{none}
 use Rattle.laws.specs.Part.{part}
 use Rattle.laws.specs.Tabulate.{tabulate}
-use Rattle.laws.proofs.Bools.{and_left, and_right}
+use Rattle.laws.proofs.Bools.{either, and_left, and_right}
 use Rattle.laws.proofs.Leasts.{none_each, none-if}
 use Rattle.laws.proofs.Parts.{part_length}
 use Rattle.laws.proofs.Tabs.{tab-length, fill-at}
@@ -24,7 +25,7 @@ use Rattle.keys.proofs.Spaced.{spaced-start, spaced-key}
 use Rattle.day.specs.Contents.{form_for, most, front, entry_at, names_at, width_in, count_in, name_in, digits_in, length_in, front_good, table_good, bad_length, form_good, contents_good}
 use Rattle.day.specs.Bodies.{size_at, Short}
 use Rattle.day.specs.First.{Contents}
-use Rattle.day.proofs.Forms.{width_few, width-end, entry_next}
+use Rattle.day.proofs.Forms.{width-end, entry_next}
 
 module _ (s : List ℕ) where
   -- the front by itself
@@ -71,6 +72,18 @@ module _ (s : List ℕ) where
   pub contents-exact : (contents_good s ≡ true) ↔ Contents s
   contents-exact = (contents-good, good-contents)
 
+  -- the entries first, then their lengths and the form
+  pub entries-none : false ≡ (front_good s && table_good s (count_in s)) → false ≡ contents_good s
+  unfolding contents_good
+  entries-none e = ⊎_elim (λ t. let f = rw t at e in rw (t, ← f)) (λ f. rw f) (either (front_good s))
+
+  pub entries-some : true ≡ (front_good s && table_good s (count_in s)) → (none (bad_length s) (count_in s) && form_good s (count_in s)) ≡ contents_good s
+  unfolding contents_good
+  entries-some e =
+      let front = front_good s in
+      let table = table_good s (count_in s) in
+      rw (and_left front table (sym e), and_right front table (sym e))
+
   -- entry i lies within
   pub entry-inside : (width n i : ℕ) → entry_at width n ≤ length s → i < n → entry_at width i + (8 + width) ≤ length s
   entry-inside width n i h l = omega (arith, entry_next width n i l)
@@ -79,10 +92,6 @@ module _ (s : List ℕ) where
   pub digits_long : (n : ℕ) → entry_at (width_in s) n ≤ length s → (i : ℕ) → i < n → length (digits_in s i) ≡ width_in s
   unfolding digits_in
   digits_long n h i l = part_length (entry_at (width_in s) i + 8) (width_in s) s (omega (arith, entry-inside (width_in s) n i h l))
-
-  pub width-in : width_in s ≤ 6
-  unfolding width_in
-  width-in = width_few (get_or s 0 0)
 
   pub short-in : (n : ℕ) → entry_at (width_in s) n ≤ length s → Short (length_in s) n
   unfolding length_in width_in
@@ -101,13 +110,24 @@ module _ (s : List ℕ) where
   pub names-inside : (width n : ℕ) → entry_at width n ≤ length s → Inside [] (names_at width) s n
   names-inside width n h i l = rw (spaced-start (names_at width) i) (omega (arith, entry-inside width n i h l))
 
-  -- lengths by the list that is made of them
-  pub size_in : (n i : ℕ) → i < n → size_at (tabulate (length_in s) n ++ drop n (replicate most 0)) i ≡ length_in s i
-  unfolding size_at
-  size_in n i l = fill-at (length_in s) (replicate most 0) n i l
-
-  pub size-short : (n : ℕ) → entry_at (width_in s) n ≤ length s → Short (size_at (tabulate (length_in s) n ++ drop n (replicate most 0))) n
-  size-short n h i l = rw (size_in n i l) (short-in n h i l)
-
+  -- the list that is made of the lengths has room for them
   pub size_room : (n : ℕ) → n ≤ most → n ≤ length (tabulate (length_in s) n ++ drop n (replicate {A = ℕ} most 0))
   size_room n h = rw (length-append (tabulate (length_in s) n) (drop n (replicate most 0)), tab-length (length_in s) n) (omega arith)
+
+  pub size_in : (n i : ℕ) → i < n → get_or (tabulate (length_in s) n ++ drop n (replicate most 0)) i 0 ≡ length_in s i
+  size_in n i l = fill-at (length_in s) (replicate most 0) n i l
+
+  -- the first m of them
+  module _ (n m : ℕ) (h : m ≤ n) where
+    abbrev firsts : List ℕ
+    firsts = take m (tabulate (length_in s) n ++ drop n (replicate most 0))
+
+    pub taken-at : (i : ℕ) → i < m → size_at firsts i ≡ length_in s i
+    unfolding size_at
+    taken-at i l = get_or-take m (tabulate (length_in s) n ++ drop n (replicate most 0)) i 0 l ∙ size_in n i (omega (arith, l, h))
+
+    pub taken-long : n ≤ most → length firsts ≡ m
+    taken-long few = length-take-le m (tabulate (length_in s) n ++ drop n (replicate most 0)) (le_trans h (size_room n few))
+
+    pub taken-short : entry_at (width_in s) n ≤ length s → Short (size_at firsts) m
+    taken-short whole i l = rw (taken-at i l) (short-in n whole i (omega (arith, l, h)))

@@ -2,10 +2,10 @@
 -- Assumes nothing.
 use Prim.Native.Nat.{ℕ, ◌+◌, ◌≤◌, ◌<◌}
 use mathlib.Core.List.{List}
-use mathlib.Core.Path.{◌≡◌, ap}
+use mathlib.Core.Path.{◌≡◌, refl, sym, ap}
 use mathlib.Core.Logic.{⊎_elim}
 use native.Mathlib.Nat.{le_refl, eq-or-lt_of_le}
-use borrow.Author.Tests.{eq-eqb, ne_eqb, lt-ltb, le-ltb}
+use borrow.Author.Tests.{eq-eqb, ne_eqb, lt-ltb, le-ltb, ltb-true, ltb-false}
 use lib.ListN.{length}
 use Rattle.laws.specs.Least.{least}
 use Rattle.laws.specs.Sum.{sum}
@@ -14,7 +14,9 @@ use Rattle.laws.proofs.Sums.{sum_same}
 use Rattle.answers.specs.Answers.{refuses, refuses_at}
 use Rattle.answers.specs.OfDay.{day_accepted, other_length, repeated_name, refused_body}
 use Rattle.answers.proofs.Refusals.{So-far, refuses-is}
-use Rattle.keys.specs.Keys.{repeats_in}
+use Rattle.std.specs.Prelude.{Some, None}
+use Rattle.keys.specs.Keys.{repeats_in, below}
+use Rattle.keys.proofs.Found.{below-some, below_none}
 use Rattle.keys.proofs.Spaced.{first-same}
 use Rattle.day.specs.Bodies.{body_told_at, refused_told, bodies_told, repeat_told, names_told, list_told}
 use Rattle.day.proofs.Joined.{body_same}
@@ -44,6 +46,16 @@ module _ (name : ℕ → List ℕ) (size : ℕ → ℕ) (n : ℕ) (bodies : List
     pub list-33 : (i : ℕ) → i ≡ least (repeats_in name) n → n ≤ i → list_told name size n bodies ≡ bodies_told name size n bodies
     unfolding list_told names_told repeat_told
     list-33 i e h = rw (eq-eqb (sum size n) (length bodies) all, ← e, le-ltb i n h)
+
+    -- as a search among as many names says
+    module _ (m : ℕ) (each : m ≡ n) where
+      pub repeated-told : (i : ℕ) → Some i ≡ below m (least (repeats_in name) m) → list_told name size n bodies ≡ repeated_name (i + 1)
+      repeated-told i e =
+          let found = below-some n (least (repeats_in name) n) i (rw each at e) in
+          list-32 i (sym found.1) (ltb-true i n (rw found.1 at found.0))
+
+      pub distinct-told : None ≡ below m (least (repeats_in name) m) → list_told name size n bodies ≡ bodies_told name size n bodies
+      distinct-told e = list-33 (least (repeats_in name) n) refl (ltb-false _ n (below_none n (least (repeats_in name) n) (rw each at e)))
 
 -- the same names and lengths, and the same bodies, are told the same
 module _ (name other : ℕ → List ℕ) (size long : ℕ → ℕ) (n : ℕ) (bodies : List ℕ)

@@ -12,9 +12,8 @@ use Rattle.laws.specs.Part.{part}
 use Rattle.laws.specs.Sum.{sum}
 use Rattle.laws.proofs.Bools.{either}
 use Rattle.laws.proofs.Sums.{sum-start, sum_more, sum-up}
-use Rattle.answers.specs.declared.lying.Lies.TheVariants.{From, Nowhere}
+use Rattle.answers.specs.Lying.{From, Nowhere, is_one, case_of, first_of, size_of}
 use Rattle.answers.specs.OfDay.{day_accepted, day_refuses}
-use Rattle.answers.specs.Lying.{is_one, case_of, first_of, size_of}
 use Rattle.answers.proofs.Lies.{one-true}
 use Rattle.answers.proofs.OfDay.{day-number, day-zero}
 use Rattle.day.specs.Contents.{end_in, count_in, length_in, bodies_in}

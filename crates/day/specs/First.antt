@@ -1,11 +1,10 @@
 -- What each answer of reading says: what is reported is the first, in the order of reading, at which something is wrong.
-use Rattle.std.specs.Prelude.{ℕ, ◌+◌, ◌≤◌, ◌<◌, true, false, List, ◌≡◌, length, get_or}
+use Rattle.std.specs.Prelude.{ℕ, ◌+◌, ◌≤◌, ◌<◌, true, false, List, ◌≡◌, length, get_or, Some, None}
 use Rattle.laws.specs.Part.{part}
 use Rattle.laws.specs.Sum.{sum}
 use Rattle.text.specs.Characters.{digits}
 use Rattle.numbers.specs.Numbers.{word_of}
 use Rattle.kinds.specs.declared.of_files.Kind.{Kind}
-use Rattle.kinds.specs.declared.of_files.Named.TheVariants.{Is, Unknown}
 use Rattle.kinds.specs.Kinds.{daily_of}
 use Rattle.answers.specs.declared.told.Answer.{Answer}
 use Rattle.answers.specs.declared.of_day.DayAnswer.{DayAnswer}
@@ -36,11 +35,11 @@ pub record Listed (name : ℕ → List ℕ) (size : ℕ → ℕ) (n : ℕ) (bodi
 -- what is told of a body that is refused
 pub data BodySays (name body : List ℕ) : Answer → Type 0 where
   -- 1: its name says no kind of a day file
-  unknown : daily_of (word_of name) ≡ Unknown → BodySays name body (refused 1)
+  unknown : daily_of (word_of name) ≡ None → BodySays name body (refused 1)
   -- as reading it as the kind that its name says
-  broken : (k : Kind) → daily_of (word_of name) ≡ Is k → ((read_as k body).number ≡ 0 → ⊥) → BodySays name body (read_as k body)
+  broken : (k : Kind) → daily_of (word_of name) ≡ Some k → ((read_as k body).number ≡ 0 → ⊥) → BodySays name body (read_as k body)
   -- 5 at item 4 of the header: it is accepted so, and has another name
-  other : (k : Kind) → daily_of (word_of name) ≡ Is k → read_as k body ≡ accepted → (part 19 8 body ≡ name → ⊥) →
+  other : (k : Kind) → daily_of (word_of name) ≡ Some k → read_as k body ≡ accepted → (part 19 8 body ≡ name → ⊥) →
       BodySays name body (refused_at 5 0 4 0x30303030)
 
 -- what is told of n bodies

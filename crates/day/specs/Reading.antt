@@ -2,12 +2,8 @@
 use Rattle.std.specs.Prelude.{ℕ, ◌+◌, ◌-◌, cond, List}
 use Rattle.laws.specs.Sum.{sum}
 use Rattle.answers.specs.declared.of_day.DayAnswer.{DayAnswer}
-use Rattle.answers.specs.declared.of_day.DayTold.{DayTold}
-use Rattle.answers.specs.declared.of_day.DayShown.{DayShown}
-use Rattle.answers.specs.declared.lying.Lies.{Lies}
-use Rattle.answers.specs.declared.lying.Lies.TheVariants.{Refused, From, Nowhere}
-use Rattle.answers.specs.OfDay.{bad_contents, day_refuses, counting}
-use Rattle.answers.specs.Lying.{is_one}
+use Rattle.answers.specs.OfDay.{DayTold, DayShown, bad_contents, day_refuses, counting}
+use Rattle.answers.specs.Lying.{Lies, Refused, From, Nowhere, is_one}
 use Rattle.day.specs.Contents.{end_in, count_in, name_in, length_in, bodies_in, contents_good}
 use Rattle.day.specs.Bodies.{list_told}
 

@@ -1,11 +1,14 @@
 // The contents of a day file: the form, how many bodies, and the name and the length of each.
 // Lengths have five digits in form "1" and six in form "2", which is for bodies of more than 99,999 bytes.
-ghost use Rattle.std.specs.Prelude.{◌≡◌, ◌++◌, ◌≤◌, ◌<◌, length, drop, replicate};
+ghost use Rattle.std.specs.Prelude.{◌≡◌, [], ◌++◌, ◌≤◌, ◌<◌, ◌&&◌, length, drop, replicate, is_some, IfSome};
 ghost use Rattle.laws.specs.Least.{none};
 ghost use Rattle.laws.specs.Tabulate.{tabulate};
-ghost use Rattle.day.specs.Contents.{width_of, form_for, names_at, most, front, entry_at, width_in, count_in, length_in, front_good, table_good, bad_length, form_good, contents_good};
+ghost use Rattle.keys.specs.Stands.{key_in};
+ghost use Rattle.keys.specs.Keyed.{key_of};
+ghost use Rattle.day.specs.Contents.{width_of, form_for, names_at, most, front, entry_at, width_in, count_in, digits_in, length_in, front_good, table_good, bad_length, form_good, contents_good};
 ghost use Rattle.day.specs.Bodies.{size_at};
 
+use keys::keyed::Keys;
 use keys::stands::Spacing;
 use numbers::base_ten;
 use text::{characters, parts};
@@ -39,128 +42,133 @@ pub fn width(form: u8) -> usize
     5
 }
 
-// The form for n lengths.
-pub fn form_for(lengths: &[u64], n: usize) -> u8
-    requires { n ≤ length lengths.now }
-    ensures { result ≡ form_for (size_at lengths.now) n }
+// The form for lengths.
+pub fn form_for(lengths: &[u64]) -> u8
+    ensures { result ≡ form_for (size_at lengths.now) (length lengths.now) }
 {
-    let mut i = 0;
-    while i < n {
-        if FIVE_DIGITS <= lengths[i] {
-            return FORM_TWO;
-        }
-        i += 1;
+    if lengths.iter().any(|length| FIVE_DIGITS <= *length) {
+        return FORM_TWO;
     }
     FORM_ONE
 }
 
-// Where the names stand, between lengths of so many digits.
-pub(crate) fn names(width: usize) -> Spacing
-    requires { width ≤ 6 }
-    ensures { result ≡ names_at width }
+// Where the entry of body i + 1 begins, and where the contents of i bodies end.
+pub fn entry_at(width: usize, i: usize) -> usize
+    requires width_bound { width ≤ 6 }
+    requires i_bound { i < 100 }
+    ensures { result ≡ entry_at width i }
 {
-    Spacing {
-        stride: NAME + width,
-        offset: FRONT,
-        size: NAME,
-    }
+    i * (NAME + width) + FRONT
 }
 
 fn front_good(file: &[u8]) -> bool
     ensures { result ≡ front_good file.now }
 {
-    if file.len() < FRONT {
-        return false;
-    }
-    characters::each(b'0', b'9', parts::part(file, 1, 2))
+    FRONT <= file.len() && characters::each(b'0', b'9', parts::part(file, 1, 2))
 }
 
-// The digits of a length in this file.
-pub(crate) fn width_in(file: &[u8]) -> usize
-    requires { front ≤ length file.now }
-    ensures value { result ≡ width_in file.now }
-    ensures upper_bound { result ≤ 6 }
-{
-    width(file[0])
+// So many entries at the front of a file, each with a length of so many digits.
+#[derive(Clone, Copy)]
+pub(crate) struct Contents<'a> {
+    file: &'a [u8],
+    width: usize,
+    pub(crate) n: usize,
+    ghost by_form: { width ≡ width_in file.now },
+    ghost digits: { width ≤ 6 },
+    ghost by_count: { n ≡ count_in file.now },
+    ghost few: { n ≤ most },
+    ghost whole: { entry_at width n ≤ length file.now },
 }
 
-// How many bodies there are.
-pub(crate) fn count(file: &[u8]) -> usize
-    requires { front ≤ length file.now }
-    ensures value { result ≡ count_in file.now }
-    ensures upper_bound { result < 100 }
-{
-    base_ten::number(parts::part(file, 1, 2)) as usize
-}
-
-// There are not too many entries, and all of them are there.
-fn table_good(file: &[u8], width: usize, n: usize) -> bool
-    requires width_value { width ≡ width_in file.now }
-    requires width_bound { width ≤ 6 }
-    requires n_bound { n < 100 }
-    ensures { result ≡ table_good file.now n }
-{
-    n <= MOST && n * (NAME + width) + FRONT <= file.len()
-}
-
-// The lengths of the first n bodies are digits.
-fn lengths_good(file: &[u8], width: usize, n: usize) -> bool
-    requires width_value { width ≡ width_in file.now }
-    requires width_bound { width ≤ 6 }
-    requires n_le_most { n ≤ most }
-    requires n_in_bounds { entry_at width n ≤ length file.now }
-    ensures { result ≡ none (bad_length file.now) n }
-{
-    let mut i = 0;
-    while i < n {
-        let digits = parts::part(file, i * (NAME + width) + FRONT + NAME, width);
-        if !characters::each(b'0', b'9', digits) {
-            return false;
+impl<'a> Contents<'a> {
+    // The entries of a file, where it has a form and a count, the count is not too large, and all of them are there.
+    fn entries(file: &'a [u8]) -> Option<Self>
+        ensures good { is_some result ≡ (front_good file.now && table_good file.now (count_in file.now)) }
+        ensures of { IfSome result (λ c. c.file ≡ file.entry) }
+    {
+        if !front_good(file) {
+            return None;
         }
-        i += 1;
+        let width = width(file[0]);
+        let n = base_ten::number(parts::part(file, 1, 2)) as usize;
+        if MOST < n || file.len() < entry_at(width, n) {
+            return None;
+        }
+        Some(Contents { file, width, n })
     }
-    true
-}
 
-// The lengths of the first n bodies.
-pub(crate) fn lengths(file: &[u8], width: usize, n: usize) -> [u64; MOST]
-    requires width_value { width ≡ width_in file.now }
-    requires width_bound { width ≤ 6 }
-    requires n_le_most { n ≤ most }
-    requires n_in_bounds { entry_at width n ≤ length file.now }
-    ensures { result ≡ tabulate (length_in file.now) n ++ drop n (replicate most 0) }
-{
-    let mut list = [0u64; MOST];
-    let mut i = 0;
-    while i < n {
-        list[i] = base_ten::number(parts::part(file, i * (NAME + width) + FRONT + NAME, width));
-        i += 1;
+    // Where they end.
+    pub(crate) fn end(self) -> usize
+        ensures value { result ≡ entry_at self.entry.width self.entry.n }
+        ensures upper_bound { result ≤ 227 }
+    {
+        entry_at(self.width, self.n)
     }
-    list
-}
 
-// The form is the one that the lengths of the n bodies need.
-fn form_good(file: &[u8], width: usize, n: usize) -> bool
-    requires width_value { width ≡ width_in file.now }
-    requires width_bound { width ≤ 6 }
-    requires n_le_most { n ≤ most }
-    requires n_in_bounds { entry_at width n ≤ length file.now }
-    ensures { result ≡ form_good file.now n }
-{
-    let list = lengths(file, width, n);
-    file[0] == form_for(&list, n)
-}
-
-// The bytes begin with the contents of a day.
-pub(crate) fn good(file: &[u8]) -> bool
-    ensures { result ≡ contents_good file.now }
-{
-    if front_good(file) {
-        let width = width_in(file);
-        let n = count(file);
-        if table_good(file, width, n) {
-            return lengths_good(file, width, n) && form_good(file, width, n);
+    // The names.
+    pub(crate) fn names(self) -> Keys<'a>
+        ensures value { key_of result ≡ key_in [] (names_at self.entry.width) self.entry.file.now }
+        ensures count { result.n ≡ self.entry.n }
+    {
+        Keys {
+            s: self.file,
+            places: &[],
+            spacing: Spacing {
+                stride: NAME + self.width,
+                offset: FRONT,
+                size: NAME,
+            },
+            n: self.n,
         }
     }
-    false
+
+    // The digits of a length.
+    fn digits(self, i: usize) -> &'a [u8]
+        requires { i < self.n }
+        ensures value { result.now ≡ digits_in self.entry.file.now i }
+        ensures size { length result.now ≡ self.entry.width }
+    {
+        parts::part(self.file, entry_at(self.width, i) + NAME, self.width)
+    }
+
+    fn lengths_good(self) -> bool
+        ensures { result ≡ none (bad_length self.entry.file.now) self.entry.n }
+    {
+        for i in 0..self.n {
+            if !characters::each(b'0', b'9', self.digits(i)) {
+                return false;
+            }
+        }
+        true
+    }
+
+    // The lengths, with nothing behind them.
+    pub(crate) fn lengths(self) -> [u64; MOST]
+        ensures { result ≡ tabulate (length_in self.entry.file.now) self.entry.n ++ drop self.entry.n (replicate most 0) }
+    {
+        let mut list = [0; MOST];
+        for i in 0..self.n {
+            list[i] = base_ten::number(self.digits(i));
+        }
+        list
+    }
+
+    // The form is the one that the lengths need.
+    fn form_good(self) -> bool
+        ensures { result ≡ form_good self.entry.file.now self.entry.n }
+    {
+        self.file[0] == form_for(&self.lengths()[..self.n])
+    }
+
+    // The contents of a day, where the bytes begin with them.
+    pub(crate) fn of(file: &'a [u8]) -> Option<Self>
+        ensures good { is_some result ≡ contents_good file.now }
+        ensures of { IfSome result (λ c. c.file ≡ file.entry) }
+    {
+        let contents = Contents::entries(file)?;
+        if contents.lengths_good() && contents.form_good() {
+            return Some(contents);
+        }
+        None
+    }
 }

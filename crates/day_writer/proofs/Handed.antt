@@ -4,7 +4,7 @@ use Prim.Native.Nat.{ℕ, ◌-◌, ◌<◌}
 use mathlib.Core.List.{List}
 use mathlib.Core.Path.{◌≡◌, sym, ◌∙◌}
 use native.Mathlib.Omega.{arith}
-use Rattle.answers.specs.declared.lying.Lies.TheVariants.{From}
+use Rattle.answers.specs.Lying.{From}
 use Rattle.answers.proofs.OfDay.{day-number}
 use Rattle.day.specs.Contents.{count_in, length_in, bodies_in}
 use Rattle.day.specs.Bodies.{size_at}

@@ -8,8 +8,7 @@ use borrow.Author.Tests.{le-leb, lt-leb}
 use lib.ListN.{length}
 use Rattle.laws.specs.Stored.{stored}
 use Rattle.answers.specs.declared.of_day.DayAnswer.{DayAnswer}
-use Rattle.answers.specs.declared.of_day.DayTold.{DayTold}
-use Rattle.answers.specs.OfDay.{day_accepted, short_room}
+use Rattle.answers.specs.OfDay.{DayTold, day_accepted, short_room}
 use Rattle.answers.specs.Storing.{at_front}
 use Rattle.answers.proofs.OfDay.{day-is, day-not}
 use Rattle.day.specs.Contents.{width_for, entry_at}

@@ -3,8 +3,7 @@ use Rattle.std.specs.Prelude.{ℕ, ◌*◌, Bool, cond, ◌&&◌, List, leb, eqb
 use Rattle.laws.specs.Least.{none}
 use Rattle.laws.specs.Part.{part}
 use Rattle.answers.specs.declared.of_day.DayAnswer.{DayAnswer}
-use Rattle.answers.specs.declared.of_day.DayTold.{DayTold}
-use Rattle.answers.specs.OfDay.{day_accepted, bad_contents, short_room, day_refuses, counting}
+use Rattle.answers.specs.OfDay.{DayTold, day_accepted, bad_contents, short_room, day_refuses, counting}
 use Rattle.answers.specs.Storing.{at_front}
 use Rattle.day.specs.Contents.{most, length_end}
 use Rattle.day.specs.Bodies.{size_at, list_told}

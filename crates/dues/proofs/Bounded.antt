@@ -13,7 +13,7 @@ use Rattle.laws.proofs.Bools.{either}
 use Rattle.laws.proofs.Tabs.{tab-length, fill-at}
 use Rattle.kinds.specs.Kinds.{limit}
 use Rattle.kinds.specs.declared.of_pairs.PairKind.{PairKind}
-use Rattle.kinds.specs.declared.of_pairs.PairNamed.TheVariants.{Is}
+use Rattle.std.specs.Prelude.{Some}
 use Rattle.kinds.specs.Pairs.{request_kind, pair_of}
 use Rattle.answers.specs.Answers.{refuses}
 use Rattle.answers.proofs.Refusals.{refuses-zero}
@@ -22,14 +22,14 @@ use Rattle.keys.specs.Stands.{Inside}
 use Rattle.matching.specs.Amounts.{taken_at}
 use Rattle.dues.specs.Posting.{payer_at, ready_told}
 use Rattle.payers.specs.Turns.{payer_spacing, dues_key, listed}
-use Rattle.dues.specs.Steps.{ready_count, ready_dates, ready_list}
-use Rattle.dues.proofs.Readied.{ready-known, ready-accepts, count_none, dates-kept, list-kept, count-is, dates-are, list-is}
-use Rattle.dues.proofs.Requested.{requests-few, payers-inside, payer-key, taken-small, dates-long}
+use Rattle.dues.specs.Steps.{ready_count, ready_list}
+use Rattle.dues.proofs.Readied.{ready-known, ready-accepts, count_none, list-kept, count-is, list-is}
+use Rattle.dues.proofs.Requested.{requests-few, payers-inside, payer-key, taken-small}
 
 module _ (kind : ℕ) (q r dates : List ℕ) where
   -- a refusal, or an accepted pair of a kind that the number names
   module _ (X : Type 0) (none : refuses (ready_told kind q r dates) ≡ true → X)
-      (one : (p : PairKind) → pair_of kind ≡ Is p → (ready_told kind q r dates).number ≡ 0 → X) where
+      (one : (p : PairKind) → pair_of kind ≡ Some p → (ready_told kind q r dates).number ≡ 0 → X) where
     by-case : X
     by-case = ⊎_elim none (λ f. let z = refuses-zero (ready_told kind q r dates) f in let k = ready-known kind q r dates z in one k.p k.named z) (either (refuses (ready_told kind q r dates)))
 
@@ -42,23 +42,18 @@ module _ (kind : ℕ) (q r dates : List ℕ) where
   pub ready-word : ready_count kind q r dates ≤ 65535
   ready-word = omega (arith, ready-few)
 
-  -- a lent list of the limit is as long as it was, and the dates are as many bytes as they were
+  -- a lent list of the limit is as long as it was
   pub list_length : (old : List ℕ) → limit ≤ length old → length (ready_list kind q r dates old) ≡ length old
   list_length old long =
       by-case (length (ready_list kind q r dates old) ≡ length old) (λ t. rw (list-kept kind q r dates t old)) filled
     where
-      filled : (p : PairKind) → pair_of kind ≡ Is p → (ready_told kind q r dates).number ≡ 0 → length (ready_list kind q r dates old) ≡ length old
+      filled : (p : PairKind) → pair_of kind ≡ Some p → (ready_told kind q r dates).number ≡ 0 → length (ready_list kind q r dates old) ≡ length old
       filled p e z =
           let n = data_of (request_kind p) q in
           rw (list-is kind q r dates p e z old)
           (length-append (tabulate (taken_at p q r) n) (drop n old) ∙
           rw (tab-length (taken_at p q r) n, length-drop {A = ℕ} n old)
           (omega (arith, long, requests-few p q r dates (ready-accepts kind q r dates p e z))))
-
-  pub dates-length : length dates ≡ 12 → length (ready_dates kind q r dates) ≡ length dates
-  dates-length l =
-      by-case (length (ready_dates kind q r dates) ≡ length dates) (λ t. rw (dates-kept kind q r dates t))
-      (λ p e z. rw (dates-are kind q r dates p e z) (dates-long p q r dates (ready-accepts kind q r dates p e z) l))
 
   -- each payer lies within the request
   pub ready-inside : Inside [] payer_spacing q (ready_count kind q r dates)
@@ -67,7 +62,7 @@ module _ (kind : ℕ) (q r dates : List ℕ) where
       (λ p e z. rw (count-is kind q r dates p e z) (payers-inside p q r dates (ready-accepts kind q r dates p e z)))
 
   -- the requests by the pair kind: their payers, and what was taken of each
-  module _ (p : PairKind) (named : pair_of kind ≡ Is p) (good : (ready_told kind q r dates).number ≡ 0) where
+  module _ (p : PairKind) (named : pair_of kind ≡ Some p) (good : (ready_told kind q r dates).number ≡ 0) where
     pub ready-key : (i : ℕ) → i < ready_count kind q r dates → dues_key q i ≡ payer_at p q i
     ready-key i h = payer-key p q r dates (ready-accepts kind q r dates p named good) i (rw (count-is kind q r dates p named good) at h)
 

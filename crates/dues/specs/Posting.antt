@@ -1,11 +1,9 @@
 -- A debit pair is posted on the board: 43; the pair's answer; 40; then request by request 41 or 42.
-use Rattle.std.specs.Prelude.{ℕ, Bool, true, cond, List, eqb, ltb, get_or}
+use Rattle.std.specs.Prelude.{ℕ, Bool, true, cond, List, eqb, ltb, get_or, Option, Some, None}
 use Rattle.laws.specs.Least.{least}
 use Rattle.laws.specs.Part.{part, differ}
 use Rattle.laws.specs.Stored.{stored}
 use Rattle.kinds.specs.declared.of_pairs.PairKind.{PairKind}
-use Rattle.kinds.specs.declared.of_pairs.PairNamed.{PairNamed}
-use Rattle.kinds.specs.declared.of_pairs.PairNamed.TheVariants.{Is, Unknown}
 use Rattle.kinds.specs.declared.of_pairs.Family.{Family}
 use Rattle.kinds.specs.declared.of_pairs.Family.TheVariants.{Enrolment, Debit}
 use Rattle.kinds.specs.Kinds.{own_ec21}
@@ -60,9 +58,9 @@ abbrev pub ready_in : Family → PairKind → List ℕ → List ℕ → List ℕ
 ready_in Enrolment p q r dates = refused 1
 ready_in Debit p q r dates = ready_as p q r dates
 
-abbrev pub ready_named : PairNamed → List ℕ → List ℕ → List ℕ → Answer
-ready_named (Is p) q r dates = ready_in p.family p q r dates
-ready_named Unknown q r dates = refused 1
+abbrev pub ready_named : Option PairKind → List ℕ → List ℕ → List ℕ → Answer
+ready_named (Some p) q r dates = ready_in p.family p q r dates
+ready_named None q r dates = refused 1
 
 unfoldable pub ready_told : ℕ → List ℕ → List ℕ → List ℕ → Answer
 ready_told kind q r dates = ready_named (pair_of kind) q r dates
@@ -71,9 +69,9 @@ ready_told kind q r dates = ready_named (pair_of kind) q r dates
 unfoldable pub requests_tell : PairKind → List ℕ → List ℕ → List Member → Answer
 requests_tell p q r board = dues_tell (payer_at p q) (taken_at p q r) (data_of (request_kind p) q) board
 
-abbrev pub requests_named : PairNamed → List ℕ → List ℕ → List Member → Answer
-requests_named (Is p) q r board = requests_tell p q r board
-requests_named Unknown q r board = accepted
+abbrev pub requests_named : Option PairKind → List ℕ → List ℕ → List Member → Answer
+requests_named (Some p) q r board = requests_tell p q r board
+requests_named None q r board = accepted
 
 unfoldable pub board_told : ℕ → List ℕ → List ℕ → List Member → List ℕ → Answer
 board_told kind q r board dates =
@@ -83,17 +81,17 @@ board_told kind q r board dates =
 unfoldable pub members_as : PairKind → List ℕ → List ℕ → List Member → List Member
 members_as p q r board = members_after (payer_at p q) (taken_at p q r) (data_of (request_kind p) q) board
 
-abbrev pub members_named : PairNamed → List ℕ → List ℕ → List Member → List Member
-members_named (Is p) q r board = members_as p q r board
-members_named Unknown q r board = board
+abbrev pub members_named : Option PairKind → List ℕ → List ℕ → List Member → List Member
+members_named (Some p) q r board = members_as p q r board
+members_named None q r board = board
 
 -- the date of its sort moves
 unfoldable pub dates_as : PairKind → List ℕ → List ℕ → List ℕ
 dates_as p q dates = stored (date_start p) (day_of p q) dates
 
-abbrev pub dates_named : PairNamed → List ℕ → List ℕ → List ℕ
-dates_named (Is p) q dates = dates_as p q dates
-dates_named Unknown q dates = dates
+abbrev pub dates_named : Option PairKind → List ℕ → List ℕ → List ℕ
+dates_named (Some p) q dates = dates_as p q dates
+dates_named None q dates = dates
 
 -- members and dates afterwards, for any number, any bytes, any board and any dates: a refusal changes nothing
 unfoldable pub board_after : ℕ → List ℕ → List ℕ → List Member → List ℕ → List Member

@@ -10,6 +10,8 @@ use kinds::of_pairs::PairKind;
 use matching::{amounts, lookup};
 
 // One place for each of n requests, in file order; places past them stay.
+// Kept: beside `fill` of `pair`, which fills a second list: here it would be room for nothing.
+#[inline(never)]
 pub(crate) fn fill(pair: PairKind, request: &[u8], res: &[u8], n: usize, taken: &mut [u64])
     requires bound { 2 ≤ count_of (request_kind pair) request.now }
     requires request_bound { count_of (request_kind pair) request.now ≤ limit + 2 }
@@ -20,10 +22,8 @@ pub(crate) fn fill(pair: PairKind, request: &[u8], res: &[u8], n: usize, taken: 
     ensures { taken.new ≡ tabulate (taken_at pair request.now res.now) n ++ drop n taken.old }
 {
     let results = lookup::results_for(pair, request, res);
-    let mut i = 0;
-    while i < n {
+    for i in 0..n {
         let left = amounts::not_taken_by(pair, res, results[i] as usize);
         taken[i] = amounts::rest(amounts::asked_at(pair, request, i), left);
-        i += 1;
     }
 }

@@ -1,27 +1,61 @@
 // The list of cases, line by line.
-use crate::{pairs, reads, writes};
+use crate::{pairs, reads, values, writes};
+use numbers::base_ten;
 use std::io;
 use std::io::Print;
-use text::parts;
 use words::fields;
 
+// A line of the list, and the whole list, in which the samples stand.
+#[derive(Clone, Copy)]
+pub(crate) struct Case<'a> {
+    pub(crate) samples: &'a [u8],
+    pub(crate) line: &'a [u8],
+}
+
+impl<'a> Case<'a> {
+    // Word n, counted from 0.
+    pub(crate) fn word(self, n: usize) -> &'a [u8] {
+        fields::field(n, b' ', self.line)
+    }
+
+    // All from word n on.
+    pub(crate) fn from_word(self, n: usize) -> &'a [u8] {
+        fields::after(n, b' ', self.line)
+    }
+
+    // What stands between bars, with n of them before it.
+    pub(crate) fn part(self, n: usize) -> &'a [u8] {
+        fields::field(n, b'|', self.line)
+    }
+
+    pub(crate) fn name(self) -> &'a str {
+        str::from_utf8(self.word(1)).unwrap_or("")
+    }
+
+    pub(crate) fn kind(self) -> u64 {
+        base_ten::word(self.word(2))
+    }
+
+    // The number that word n says.
+    pub(crate) fn count(self, n: usize) -> usize {
+        values::count(self.word(n))
+    }
+}
+
 // The first letter of a line says what is done: read, write, write and show, pair. Any other line is not a case.
-fn run_line(rt: &impl Print, samples: &[u8], line: &[u8]) -> io::Result<()> {
-    match parts::byte(line, 0) {
-        b'r' => reads::run(rt, samples, line),
-        b'w' | b's' => writes::run(rt, samples, line),
-        b'p' => pairs::run(rt, samples, line),
+fn run(rt: &impl Print, case: Case<'_>) -> io::Result<()> {
+    match case.line.first() {
+        Some(b'r') => reads::run(rt, case),
+        Some(b'w' | b's') => writes::run(rt, case),
+        Some(b'p') => pairs::run(rt, case),
         _ => Ok(()),
     }
 }
 
 // Runs every line.
-pub(crate) fn run_all(rt: &impl Print, text: &[u8]) -> io::Result<()> {
-    let mut left = text;
-    while 0 < left.len() {
-        run_line(rt, text, fields::head(b'\n', left))?;
-        let next = fields::past(b'\n', left);
-        left = &left[next..];
+pub(crate) fn run_all(rt: &impl Print, samples: &[u8]) -> io::Result<()> {
+    for line in samples.split(|b| *b == b'\n') {
+        run(rt, Case { samples, line })?;
     }
     Ok(())
 }

@@ -1,7 +1,4 @@
-// Bytes put into a file that is being built, and parts of it.
-ghost use Rattle.std.specs.Prelude.{◌≤◌};
-
-use text::parts;
+// Bytes put into a file that is being built, and its front.
 
 // The byte that is meant: a word of a case holds no space, and a line of text not every byte.
 fn meant(b: u8) -> u8 {
@@ -19,33 +16,16 @@ fn meant(b: u8) -> u8 {
     }
 }
 
-fn copy(to: &mut [u8], from: &[u8]) {
-    let mut i = 0;
-    while i < to.len() && i < from.len() {
-        to[i] = meant(from[i]);
-        i += 1;
-    }
-}
-
 // Puts bytes at a place; what would stand past the end is left out.
 pub(crate) fn put(file: &mut [u8], at: usize, bytes: &[u8]) {
-    if at <= file.len() {
-        copy(&mut file[at..], bytes);
+    if let Some(place) = file.get_mut(at..) {
+        for (to, from) in place.iter_mut().zip(bytes) {
+            *to = meant(*from);
+        }
     }
-}
-
-// A number, or the most that it may be.
-pub(crate) fn at_most(most: usize, n: usize) -> usize
-    ensures upper_bound { result ≤ most }
-    ensures upper_bound_2 { result ≤ n }
-{
-    if n < most {
-        return n;
-    }
-    most
 }
 
 // The file's first bytes; all where it has fewer.
-pub(crate) fn first(bytes: usize, file: &[u8]) -> &[u8] {
-    parts::part(file, 0, at_most(file.len(), bytes))
+pub(crate) fn first(file: &[u8], bytes: usize) -> &[u8] {
+    &file[..bytes.min(file.len())]
 }

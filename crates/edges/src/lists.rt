@@ -1,35 +1,24 @@
 // The two lists that are lent to a pairing.
-ghost use Rattle.std.specs.Prelude.{◌≡◌, length};
+use std::fmt;
 
-use crate::told;
-use std::io;
-use std::io::Print;
+// A place more than a file may have requests.
+pub(crate) const PLACES: usize = 2001;
 
 // What every place of a list holds before it is lent: more than any amount.
-const UNTOUCHED: u64 = 1_000_000_000_000_000;
+pub(crate) const UNTOUCHED: u64 = 1_000_000_000_000_000;
 
-// A list with a place more than a file may have requests.
-pub(crate) fn untouched() -> [u64; 2001]
-    ensures { 2001 ≡ length result }
-{
-    [UNTOUCHED; 2001]
-}
+// The places of a list, a space before each; a hyphen where one is as it was.
+#[derive(Clone, Copy)]
+pub(crate) struct List<'a>(pub(crate) &'a [u64]);
 
-// A place of a list; a hyphen where it is as it was.
-fn tell_place(rt: &impl Print, n: u64) -> io::Result<()> {
-    if n == UNTOUCHED {
-        return told::tell_bytes(rt, b" -");
+impl fmt::Display for List<'_> {
+    fn fmt<W: fmt::Write>(&self, f: &mut fmt::Formatter<W>) -> fmt::Result {
+        for place in self.0 {
+            match *place {
+                UNTOUCHED => f.write_str(" -")?,
+                n => write!(f, " {n}")?,
+            }
+        }
+        Ok(())
     }
-    told::tell_number(rt, n)
-}
-
-// A name, then the places.
-pub(crate) fn tell(rt: &impl Print, name: &[u8], list: &[u64]) -> io::Result<()> {
-    told::tell_bytes(rt, name)?;
-    let mut i = 0;
-    while i < list.len() {
-        tell_place(rt, list[i])?;
-        i += 1;
-    }
-    Ok(())
 }

@@ -15,20 +15,14 @@ mod told;
 mod values;
 mod writes;
 
-ghost use Rattle.std.specs.Prelude.{◌≡◌, length};
-
 use std::io;
 
 // Room for all of standard input, and for a file of more records than a file may have.
-pub(crate) fn space() -> [u8; 327680]
-    ensures { 327680 ≡ length result }
-{
-    [0; 327680]
-}
+pub(crate) const ROOM: usize = 327_680;
 
 // The samples and the list of cases stand on standard input, which is held whole.
 fn main(rt: HostRuntime) -> io::Result<()> {
-    let mut text = space();
+    let mut text = [0u8; ROOM];
     let n = input::read_full(&mut rt.stdin(), &mut text);
     cases::run_all(&rt, &text[..n])
 }

@@ -1,113 +1,59 @@
 // A case of pairing: pair NAME KIND TAKEN NOT-TAKEN |REQUEST |RESULT |RECORDS, where both are files as for reading, and
 // the outcome of each of the records is asked.
-use crate::{files, good, lists, told, values};
-use numbers::base_ten;
+use crate::cases::Case;
+use crate::lists::{List, PLACES, UNTOUCHED};
+use crate::told::{Became, Told};
+use crate::{ROOM, good, values};
+use answers::told::Answer;
 use outcomes::asking;
 use pair::pairing;
 use std::io;
 use std::io::Print;
-use words::fields;
 
-// Tells the answer and what became of the lists.
-fn run_pair(
-    rt: &impl Print,
-    line: &[u8],
+#[derive(Clone, Copy)]
+struct Pair<'a> {
     kind: u64,
-    request: &[u8],
-    res: &[u8],
-    taken: &mut [u64],
-    not_taken: &mut [u64],
-) -> io::Result<()> {
-    let answer = pairing::pair(kind, request, res, taken, not_taken);
-    told::tell(rt, fields::field(1, b' ', line), answer)?;
-    lists::tell(rt, b" taken", taken)?;
-    lists::tell(rt, b" not", not_taken)?;
-    told::end(rt)
+    request: &'a [u8],
+    res: &'a [u8],
 }
 
-// The lists are as long as the line says.
-fn run_lists(
-    rt: &impl Print,
-    line: &[u8],
-    kind: u64,
-    request: &[u8],
-    res: &[u8],
-) -> io::Result<()> {
-    let t = files::at_most(2001, values::count(fields::field(3, b' ', line)));
-    let u = files::at_most(2001, values::count(fields::field(4, b' ', line)));
-    let mut taken = lists::untouched();
-    let mut not_taken = lists::untouched();
-    run_pair(
-        rt,
-        line,
-        kind,
-        request,
-        res,
-        &mut taken[..t],
-        &mut not_taken[..u],
-    )
+// Tells the answer and what became of the lists, which are as long as the line says.
+fn tell_answer(rt: &impl Print, case: Case<'_>, pair: Pair<'_>) -> io::Result<()> {
+    let mut taken = [UNTOUCHED; PLACES];
+    let mut not_taken = [UNTOUCHED; PLACES];
+    let taken = &mut taken[..case.count(3).min(PLACES)];
+    let not_taken = &mut not_taken[..case.count(4).min(PLACES)];
+    let told = pairing::pair(pair.kind, pair.request, pair.res, taken, not_taken);
+    let answer = Told(Answer::of_two(told));
+    let name = case.name();
+    let taken = List(taken);
+    let not_taken = List(not_taken);
+    println!(rt; "{name} {answer} taken{taken} not{not_taken}")
 }
 
-// What became of one request.
-fn run_outcome(
-    rt: &impl Print,
-    name: &[u8],
-    kind: u64,
-    request: &[u8],
-    res: &[u8],
-    rec: u64,
-) -> io::Result<()> {
-    let asked = asking::outcome(kind, request, res, rec);
-    let answer = asked.answer;
-    let outcome = asked.outcome;
-    told::tell_bytes(rt, name)?;
-    told::tell_bytes(rt, b" of")?;
-    told::tell_number(rt, rec)?;
-    told::tell(rt, b"", answer)?;
-    told::tell_outcome(rt, outcome)?;
-    told::end(rt)
-}
-
-fn run_outcomes(
-    rt: &impl Print,
-    name: &[u8],
-    kind: u64,
-    request: &[u8],
-    res: &[u8],
-    records: &[u8],
-) -> io::Result<()> {
-    let mut left = records;
-    while 0 < left.len() {
-        run_outcome(
-            rt,
-            name,
-            kind,
-            request,
-            res,
-            values::number(fields::head(b' ', left)),
-        )?;
-        let next = fields::past(b' ', left);
-        left = &left[next..];
-    }
-    Ok(())
+// Tells what became of one request.
+fn tell_outcome(rt: &impl Print, case: Case<'_>, pair: Pair<'_>, rec: u64) -> io::Result<()> {
+    let told = asking::outcome(pair.kind, pair.request, pair.res, rec);
+    let name = case.name();
+    let answer = Told(told.answer);
+    let outcome = Became(told.outcome);
+    println!(rt; "{name} of {rec} {answer} {outcome}")
 }
 
 // Every case has files and lists of its own, so that none sees another's.
-pub(crate) fn run(rt: &impl Print, samples: &[u8], line: &[u8]) -> io::Result<()> {
-    let mut request = crate::space();
-    let mut result = crate::space();
-    let q = good::build(samples, fields::field(1, b'|', line), &mut request);
-    let r = good::build(samples, fields::field(2, b'|', line), &mut result);
-    let kind = base_ten::word(fields::field(2, b' ', line));
-    let request = files::first(q, &request);
-    let result = files::first(r, &result);
-    run_lists(rt, line, kind, request, result)?;
-    run_outcomes(
-        rt,
-        fields::field(1, b' ', line),
-        kind,
-        request,
-        result,
-        fields::field(3, b'|', line),
-    )
+pub(crate) fn run(rt: &impl Print, case: Case<'_>) -> io::Result<()> {
+    let mut request = [0u8; ROOM];
+    let mut res = [0u8; ROOM];
+    let pair = Pair {
+        kind: case.kind(),
+        request: good::build(case.samples, case.part(1), &mut request),
+        res: good::build(case.samples, case.part(2), &mut res),
+    };
+    tell_answer(rt, case, pair)?;
+    for word in case.part(3).split(|b| *b == b' ') {
+        if !word.is_empty() {
+            tell_outcome(rt, case, pair, values::number(word))?;
+        }
+    }
+    Ok(())
 }

@@ -1,20 +1,16 @@
 // A case of reading: read NAME KIND FILE.
-use crate::{files, good, told};
-use numbers::base_ten;
+use crate::cases::Case;
+use crate::told::Told;
+use crate::{ROOM, good};
 use reader::reading;
 use std::io;
 use std::io::Print;
-use words::fields;
 
 // Every case has a file of its own, so that none sees another's bytes.
-pub(crate) fn run(rt: &impl Print, samples: &[u8], line: &[u8]) -> io::Result<()> {
-    let mut file = crate::space();
-    let bytes = good::build(samples, fields::after(3, b' ', line), &mut file);
-    let kind = base_ten::word(fields::field(2, b' ', line));
-    told::tell(
-        rt,
-        fields::field(1, b' ', line),
-        reading::read(kind, files::first(bytes, &file)),
-    )?;
-    told::end(rt)
+pub(crate) fn run(rt: &impl Print, case: Case<'_>) -> io::Result<()> {
+    let mut room = [0u8; ROOM];
+    let file = good::build(case.samples, case.from_word(3), &mut room);
+    let name = case.name();
+    let answer = Told::of(reading::read(case.kind(), file));
+    println!(rt; "{name} {answer}")
 }

@@ -1,74 +1,68 @@
 // What is told of a case.
+use answers::refusing::Refusal;
 use answers::told::Answer;
 use numbers::base_ten;
 use outcomes::cases;
 use outcomes::cases::Outcome;
-use std::io;
-use std::io::Print;
+use std::fmt;
 
-pub(crate) fn tell_bytes(rt: &impl Print, bytes: &[u8]) -> io::Result<()> {
-    rt.write_all(bytes)
-}
+// A code as its four characters; a space shows as a hyphen.
+#[derive(Clone, Copy)]
+struct Code(u64);
 
-pub(crate) fn tell_number(rt: &impl Print, n: u64) -> io::Result<()> {
-    print!(rt; " {n}")
-}
-
-// The line ends.
-pub(crate) fn end(rt: &impl Print) -> io::Result<()> {
-    tell_bytes(rt, b"\n")
-}
-
-// A letter of a code; a space shows as a hyphen.
-fn shown(code: u64, d: usize) -> u8 {
-    match base_ten::letter(code, d) {
-        b' ' => b'-',
-        b => b,
+impl fmt::Display for Code {
+    fn fmt<W: fmt::Write>(&self, f: &mut fmt::Formatter<W>) -> fmt::Result {
+        for d in 0..4 {
+            match base_ten::letter(self.0, d) {
+                b' ' => f.write_char('-')?,
+                letter => f.write_char(char::from(letter))?,
+            }
+        }
+        Ok(())
     }
 }
 
-// A code as its four characters.
-fn tell_code(rt: &impl Print, code: u64) -> io::Result<()> {
-    let word = [
-        b' ',
-        shown(code, 0),
-        shown(code, 1),
-        shown(code, 2),
-        shown(code, 3),
-    ];
-    tell_bytes(rt, &word)
+// An answer: side, number, record, item, code.
+#[derive(Clone, Copy)]
+pub(crate) struct Told(pub(crate) Answer);
+
+impl Told {
+    pub(crate) fn of(told: Result<(), Refusal>) -> Self {
+        Told(Answer::of(told))
+    }
+
+    pub(crate) fn accepts(self) -> bool {
+        self.0.number == 0
+    }
 }
 
-// A name, then side, number, record, item, code.
-pub(crate) fn tell(rt: &impl Print, name: &[u8], answer: Answer) -> io::Result<()> {
-    tell_bytes(rt, name)?;
-    tell_number(rt, answer.side)?;
-    tell_number(rt, answer.number)?;
-    tell_number(rt, answer.rec)?;
-    tell_number(rt, answer.item)?;
-    tell_code(rt, answer.code)
+impl fmt::Display for Told {
+    fn fmt<W: fmt::Write>(&self, f: &mut fmt::Formatter<W>) -> fmt::Result {
+        let Answer {
+            side,
+            number,
+            rec,
+            item,
+            code,
+        } = self.0;
+        let code = Code(code);
+        write!(f, "{side} {number} {rec} {item} {code}")
+    }
 }
 
-// The outcome by its name, then what it carries; the maker by its number.
-pub(crate) fn tell_outcome(rt: &impl Print, outcome: Outcome) -> io::Result<()> {
-    match outcome {
-        Outcome::None => tell_bytes(rt, b" none")?,
-        Outcome::Whole(taken) => {
-            tell_bytes(rt, b" whole")?;
-            tell_number(rt, taken)?;
-        }
-        Outcome::Part(taken, not_taken, code, _) => {
-            tell_bytes(rt, b" part")?;
-            tell_number(rt, taken)?;
-            tell_number(rt, not_taken)?;
-            tell_code(rt, code)?;
-        }
-        Outcome::Refused(not_taken, code, _) => {
-            tell_bytes(rt, b" refused")?;
-            tell_number(rt, not_taken)?;
-            tell_code(rt, code)?;
+// An outcome by its name, then what it carries; the maker by its number.
+#[derive(Clone, Copy)]
+pub(crate) struct Became(pub(crate) Outcome);
+
+impl fmt::Display for Became {
+    fn fmt<W: fmt::Write>(&self, f: &mut fmt::Formatter<W>) -> fmt::Result {
+        let [_, taken, not_taken, code, maker] = cases::numbers(self.0);
+        let code = Code(code);
+        match self.0 {
+            Outcome::None => write!(f, "none {maker}"),
+            Outcome::Whole(_) => write!(f, "whole {taken} {maker}"),
+            Outcome::Part(_, _, _, _) => write!(f, "part {taken} {not_taken} {code} {maker}"),
+            Outcome::Refused(_, _, _) => write!(f, "refused {not_taken} {code} {maker}"),
         }
     }
-    let numbers = cases::numbers(outcome);
-    tell_number(rt, numbers[4])
 }

@@ -2,7 +2,7 @@
 ghost use Rattle.std.specs.Prelude.{◌<◌};
 
 use kinds::of_files;
-use kinds::of_files::{Kind, Named};
+use kinds::of_files::Kind;
 use numbers::base_ten;
 
 // The number that a word of at most nineteen digits says; a longer one says nothing.
@@ -17,18 +17,13 @@ pub(crate) fn number(s: &[u8]) -> u64 {
 pub(crate) fn count(s: &[u8]) -> usize
     ensures { result < 1000000 }
 {
-    let n = number(s);
-    if n < 1000000 {
-        return n as usize;
+    match number(s) {
+        n @ ..1_000_000 => n as usize,
+        _ => 0,
     }
-    0
 }
 
 // The kind that a name says; EB21 where it is unknown.
 pub(crate) fn kind(name: u64) -> Kind {
-    let named = of_files::kind_of(name);
-    match named {
-        Named::Is(kind) => kind,
-        Named::Unknown => Kind::EB21,
-    }
+    of_files::kind_of(name).unwrap_or(Kind::EB21)
 }

@@ -3,64 +3,44 @@ use crate::{days, values};
 use std::fs::Files;
 use std::io;
 use std::io::Print;
-use text::parts;
 use words::fields;
-
-// Lays a file that the first two words say, and hands out what follows them.
-fn lay<'a>(rt: &impl Files, line: &'a [u8], turn: usize, name: &str) -> io::Result<&'a [u8]> {
-    let rest = fields::tail(b' ', line);
-    days::lay(
-        rt,
-        fields::head(b' ', line),
-        values::number(fields::head(b' ', rest), turn),
-        name,
-    )?;
-    Ok(fields::tail(b' ', rest))
-}
 
 // A name, with the turn in place of a * at its end.
 fn tell_name(rt: &impl Print, name: &[u8], turn: usize) -> io::Result<()> {
-    let before = fields::head(b'*', name);
-    rt.write_all(before)?;
-    if before.len() < name.len() {
-        print!(rt; "{turn}")?;
+    let name = str::from_utf8(name).unwrap_or("");
+    match name.strip_suffix('*') {
+        Some(before) => print!(rt; "{before}{turn} "),
+        None => print!(rt; "{name} "),
     }
-    rt.write_all(b" ")
 }
 
 fn run(rt: &(impl Files + Print), line: &[u8], turn: usize) -> io::Result<()> {
-    let rest = lay(rt, fields::tail(b' ', line), turn, "request")?;
-    lay(rt, rest, turn, "result")?;
-    tell_name(rt, fields::head(b' ', line), turn)?;
+    let word = |n| fields::field(n, b' ', line);
+    days::lay(rt, word(1), values::number(word(2), turn), "request")?;
+    days::lay(rt, word(3), values::number(word(4), turn), "result")?;
+    tell_name(rt, word(0), turn)?;
     folder::posts::post(rt)
 }
 
-// Runs what follows the first word, once for each number below the one that this word says.
-fn run_turns(rt: &(impl Files + Print), line: &[u8]) -> io::Result<()> {
-    let turns = values::number(parts::rest(fields::head(b' ', line), 1), 0);
-    let day = fields::tail(b' ', line);
-    for turn in 0..turns {
-        run(rt, day, turn)?;
-    }
-    Ok(())
-}
-
-// A line that begins with # says what follows, and an empty line parts.
+// A line that begins with # says what follows, and an empty line parts. *N before a line is that line N times, with the
+// numbers from 0 to N - 1 as the turn.
 fn run_line(rt: &(impl Files + Print), line: &[u8]) -> io::Result<()> {
-    match parts::byte(line, 0) {
-        0 | b'#' => Ok(()),
-        b'*' => run_turns(rt, line),
+    match line {
+        [] | [b'#', ..] => Ok(()),
+        [b'*', times @ ..] => {
+            for turn in 0..values::number(fields::head(b' ', times), 0) {
+                run(rt, fields::tail(b' ', times), turn)?;
+            }
+            Ok(())
+        }
         _ => run(rt, line, 0),
     }
 }
 
 // Runs every line of the list.
 pub(crate) fn run_all(rt: &(impl Files + Print), list: &[u8]) -> io::Result<()> {
-    let mut left = list;
-    while 0 < left.len() {
-        run_line(rt, fields::head(b'\n', left))?;
-        let next = fields::past(b'\n', left);
-        left = &left[next..];
+    for line in list.split(|b| *b == b'\n') {
+        run_line(rt, line)?;
     }
     Ok(())
 }

@@ -4,7 +4,6 @@ use std::fs::{Files, OpenFile, Permissions};
 use std::io::Write;
 use std::os::unix::fs::PermissionsExt;
 use std::{fs, io};
-use text::parts;
 
 // No file here is longer.
 const ROOM: usize = 70_000;
@@ -21,8 +20,8 @@ fn copy(rt: &impl Files, from: &[u8], bytes: usize, name: &str, mode: u32) -> io
     let mut file = [0u8; ROOM];
     input::read_full(&mut fs::open(rt, from)?, &mut file);
     let mut made = fs::create(rt, name)?;
-    if bytes <= ROOM {
-        made.write_all(parts::part(&file, 0, bytes))?;
+    if let Some(part) = file.get(..bytes) {
+        made.write_all(part)?;
     }
     made.set_permissions(Permissions::from_mode(mode))
 }
@@ -33,10 +32,10 @@ pub(crate) fn lay(rt: &impl Files, word: &[u8], bytes: usize, name: &str) -> io:
     // What is not there cannot be removed.
     let _ = fs::remove_file(rt, name);
     let _ = fs::remove_dir(rt, name);
-    match parts::byte(word, 0) {
-        b'-' => Ok(()),
-        b'/' => fs::create_dir(rt, name),
-        b'!' => copy(rt, parts::rest(word, 1), bytes, name, SHUT),
+    match word {
+        [b'-', ..] => Ok(()),
+        [b'/', ..] => fs::create_dir(rt, name),
+        [b'!', from @ ..] => copy(rt, from, bytes, name, SHUT),
         _ => copy(rt, word, bytes, name, OPEN),
     }
 }

@@ -7,11 +7,10 @@ mod input;
 mod values;
 
 use std::io;
-use text::parts;
 
 // The list of cases stands on standard input.
 fn main(rt: HostRuntime) -> io::Result<()> {
     let mut list = [0u8; 16384];
     let n = input::read_full(&mut rt.stdin(), &mut list);
-    cases::run_all(&rt, parts::part(&list, 0, n))
+    cases::run_all(&rt, &list[..n])
 }

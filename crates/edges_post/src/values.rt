@@ -1,10 +1,9 @@
 // What a word of a case says.
 use numbers::base_ten;
-use text::parts;
 
 // The number that a word of at most 19 digits says; * is the turn's.
 pub(crate) fn number(word: &[u8], turn: usize) -> usize {
-    if parts::byte(word, 0) == b'*' {
+    if word.starts_with(b"*") {
         return turn;
     }
     if 19 < word.len() {

@@ -11,3 +11,5 @@ pub mod Exact
 pub mod Cut
 pub mod Parts
 pub mod First
+pub mod Padded
+pub mod OneShown

@@ -1,79 +1,53 @@
 -- What reading says, stage by stage, and what it leaves in the places.
 -- Assumes nothing.
-use Prim.Native.Nat.{ℕ, ◌+◌, ◌%◌, ◌≤◌, ◌<◌}
-use mathlib.Core.Bool.{Bool, true, false, cond, ◌&&◌}
+use Prim.Native.Nat.{ℕ, ◌+◌, ◌≤◌, ◌<◌}
+use mathlib.Core.Bool.{Bool, true}
 use mathlib.Core.List.{List, ◌++◌}
 use mathlib.Core.Logic.{⊎_elim}
 use mathlib.Core.Path.{◌≡◌, refl, sym, ◌∙◌}
 use native.Mathlib.Nat.{eq-or-lt_of_le}
 use native.Mathlib.Omega.{arith}
-use borrow.Author.Tests.{leb-true, eqb-true, lt-ltb}
-use lib.Dec.{leb, eqb}
-use lib.ListN.{length, get_or, length-append}
+use borrow.Author.Tests.{lt-ltb}
+use lib.ListN.{length, get_or, drop, length-append}
 use Rattle.laws.specs.Least.{least}
 use Rattle.laws.specs.Part.{same}
 use Rattle.laws.specs.Tabulate.{tabulate}
-use Rattle.laws.proofs.Bools.{and_left, and_right}
 use Rattle.laws.proofs.Leasts.{least-none, least-some, some-true}
 use Rattle.laws.proofs.Tabs.{tab-length, fill_start, fill-at}
-use Rattle.answers.specs.Answers.{accepted, refused, refuses_at, ◌then◌}
+use Rattle.answers.specs.declared.refusing.Refusal.{Refusal}
+use Rattle.answers.specs.Answers.{refuses_at, ◌then◌}
+use Rattle.answers.specs.Refusing.{told_by}
+use Rattle.answers.proofs.Tellings.{bad}
 use Rattle.answers.proofs.Refusals.{number_of, refuses-not, refuses-is, then-first, then-second, then-zero, all_told}
 use Rattle.keys.specs.Keys.{shares_in, repeats_in}
 use Rattle.kinds.specs.Kinds.{limit}
 use Rattle.evidence_units.specs.Units.{items, said_at}
-use Rattle.evidence.specs.Blocks.{block, most_blocks, blocks_in, length_at, next_of, start_of, records_in}
+use Rattle.evidence.specs.Blocks.{blocks_in, length_at, next_of, start_of, records_in}
 use Rattle.evidence.specs.Judged.{header_told, record_told, records_told, good_to, byte_of, unit_byte, trailer_told}
-use Rattle.evidence.specs.Reading.{is_whole, size_told, counts_told, key_of, repeat_told, keys_told, signed_told, read_of, good_in, places_of}
+use Rattle.evidence.specs.Reading.{size_told, counts_told, key_of, repeat_told, keys_told, signed_told, read_of, good_in, places_of}
 use Rattle.evidence.proofs.Walks.{blocks-enough, record-begins, records-most, block_inside}
 use Rattle.evidence.proofs.Told.{block-fits, record-limit, record-block}
 use Rattle.evidence.proofs.Units.{unit-said}
 
--- a size that is not refused
-pub record Sizes (s : List ℕ) : Type 0 where
-  pub whole : length s % block ≡ 0
-  pub fewest : 2 ≤ blocks_in s
-  pub most : blocks_in s ≤ most_blocks + 2
-
--- two tests, and a refusal for each
-chosen : (a b : Bool) → (cond a (cond b accepted (refused 3)) (refused 2)).number ≡ 0 → (a ≡ true) × (b ≡ true)
-chosen true true e = (refl, refl)
-chosen true false e = absurd (omega (arith, e))
-chosen false b e = absurd (omega (arith, e))
-
-pub sizes-good : (s : List ℕ) → (size_told s).number ≡ 0 → Sizes s
-unfolding size_told is_whole
-sizes-good s e =
-    let t = chosen (eqb (length s % block) 0 && leb 2 (blocks_in s)) (leb (blocks_in s) (most_blocks + 2)) e in
-    record {
-      whole = eqb-true (length s % block) 0 (and_left (eqb (length s % block) 0) (leb 2 (blocks_in s)) t.0);
-      fewest = leb-true 2 (blocks_in s) (and_right (eqb (length s % block) 0) (leb 2 (blocks_in s)) t.0);
-      most = leb-true (blocks_in s) (most_blocks + 2) t.1;
-    }
-
 module _ (exempt : Bool) (s : List ℕ) where
-  -- the size or the header is refused
-  pub at_size : ((size_told s).number ≡ 0 → ⊥) → (read_of exempt s ≡ size_told s) × (good_in exempt s ≡ 0)
-  unfolding read_of good_in
-  at_size ne = (then-first (size_told s) _ ne, rw (then-first (size_told s) (header_told s) ne, refuses-is (size_told s) ne))
+  -- where the size or the header is refused, no record is good
+  pub none-size : (r : Refusal) → told_by r ≡ size_told s → good_in exempt s ≡ 0
+  unfolding good_in
+  none-size r e = let ne = bad r _ e in rw (then-first (size_told s) (header_told s) ne, refuses-is (size_told s) ne)
 
-  pub at-header : (size_told s).number ≡ 0 → ((header_told s).number ≡ 0 → ⊥) → (read_of exempt s ≡ header_told s) × (good_in exempt s ≡ 0)
-  unfolding read_of good_in
-  at-header z ne =
-      (then-second (size_told s) _ z ∙ then-first (header_told s) _ ne, rw (then-second (size_told s) (header_told s) z, refuses-is (header_told s) ne))
+  pub none-header : (size_told s).number ≡ 0 → (r : Refusal) → told_by r ≡ header_told s → good_in exempt s ≡ 0
+  unfolding good_in
+  none-header z r e = rw (then-second (size_told s) (header_told s) z, refuses-is (header_told s) (bad r _ e))
 
-  -- neither is
-  module _ (z : (size_told s).number ≡ 0) (h : (header_told s).number ≡ 0) where
-    pub good-records : good_in exempt s ≡ good_to exempt s
-    unfolding good_in
-    good-records = rw (then-second (size_told s) (header_told s) z, refuses-not (header_told s) h)
+  -- where neither is, those before the first that is refused are
+  pub good-records : (size_told s).number ≡ 0 → (header_told s).number ≡ 0 → good_in exempt s ≡ good_to exempt s
+  unfolding good_in
+  good-records z h = rw (then-second (size_told s) (header_told s) z, refuses-not (header_told s) h)
 
-    pub at_records : ((records_told exempt s).number ≡ 0 → ⊥) → read_of exempt s ≡ records_told exempt s
-    unfolding read_of
-    at_records ne = then-second (size_told s) _ z ∙ (then-second (header_told s) _ h ∙ then-first (records_told exempt s) _ ne)
-
-    pub at_rest : (records_told exempt s).number ≡ 0 → read_of exempt s ≡ (trailer_told s then (counts_told s then (keys_told s then signed_told s)))
-    unfolding read_of
-    at_rest r = then-second (size_told s) _ z ∙ (then-second (header_told s) _ h ∙ then-second (records_told exempt s) _ r)
+  -- nothing of that and no record is: what is told is told of the trailer, the counts, the keys and the frames
+  pub at_rest : (size_told s).number ≡ 0 → (header_told s).number ≡ 0 → (records_told exempt s).number ≡ 0 → read_of exempt s ≡ (trailer_told s then (counts_told s then (keys_told s then signed_told s)))
+  unfolding read_of
+  at_rest z h r = then-second (size_told s) _ z ∙ (then-second (header_told s) _ h ∙ then-second (records_told exempt s) _ r)
 
   -- no record is refused
   module _ (r : (records_told exempt s).number ≡ 0) where
@@ -123,6 +97,12 @@ module _ (exempt : Bool) (s : List ℕ) where
   pub places-none : (old : List ℕ) → good_in exempt s ≡ 0 → old ≡ places_of exempt s old
   unfolding places_of
   places-none old e = rw e (fill_start (byte_of s) old)
+
+  pub places-filled :
+      (old : List ℕ) → (size_told s).number ≡ 0 → (header_told s).number ≡ 0 →
+      tabulate (byte_of s) (good_to exempt s) ++ drop (good_to exempt s) old ≡ places_of exempt s old
+  unfolding places_of
+  places-filled old z h = rw (good-records z h) refl
 
   pub place_at : (old : List ℕ) (i : ℕ) → i < good_in exempt s → get_or (places_of exempt s old) i 0 ≡ byte_of s i
   unfolding places_of

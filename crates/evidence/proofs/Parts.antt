@@ -14,8 +14,7 @@ use Rattle.answers.specs.Answers.{accepted, refuses}
 use Rattle.answers.proofs.Refusals.{refuses-zero}
 use Rattle.evidence.specs.Blocks.{block, front, length_at, next_of, start_of, records_in, evidence_start, evidence_length}
 use Rattle.evidence.specs.Reading.{read_of}
-use Rattle.answers.specs.declared.lying.Lies.TheVariants.{From, Nowhere}
-use Rattle.answers.specs.Lying.{is_one, case_of, first_of, size_of}
+use Rattle.answers.specs.Lying.{From, Nowhere, is_one, case_of, first_of, size_of}
 use Rattle.answers.proofs.Lies.{one-true}
 use Rattle.evidence.specs.Lying.{lies_in, part_of}
 use Rattle.evidence.specs.Parts.{Covers, Inside, Shows}

@@ -2,7 +2,7 @@
 -- Assumes nothing.
 use Prim.Native.Nat.{ℕ, ◌+◌, ◌*◌, ◌≤◌, ◌<◌}
 use mathlib.Core.List.{List}
-use mathlib.Core.Path.{◌≡◌, ap, ◌∙◌}
+use mathlib.Core.Path.{◌≡◌, ap}
 use native.Mathlib.Omega.{arith}
 use lib.ListN.{length, get_or}
 use Rattle.laws.specs.Least.{least}
@@ -30,6 +30,6 @@ module _ (s places : List ℕ) (n : ℕ) (holds : (i : ℕ) → i < n → get_or
   keys-inside inside = listed-inside places s 45 61 n (byte_of s) holds (λ i h. omega (arith, inside i h))
 
   -- and the first that repeats tells of the file's
-  pub keys-by : (i : ℕ) → n ≡ records_in s → i ≡ least (repeats_in (key_in places (anywhere 45 61) s)) n → repeat_told n i ≡ keys_told s
+  pub keys-by : n ≡ records_in s → repeat_told n (least (repeats_in (key_in places (anywhere 45 61) s)) n) ≡ keys_told s
   unfolding keys_told
-  keys-by i all e = rw (← all) (ap (repeat_told n) (e ∙ first-same _ _ n listed))
+  keys-by all = rw (← all) (ap (repeat_told n) (first-same _ _ n listed))

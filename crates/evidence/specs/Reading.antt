@@ -9,7 +9,6 @@ use Rattle.answers.specs.Answers.{accepted, refused, refused_at, refuses, ◌the
 use Rattle.keys.specs.Keys.{repeats_in}
 use Rattle.evidence_units.specs.Frames.{frames_told}
 use Rattle.evidence.specs.Blocks.{block, most_blocks, blocks_in, last_block, data_blocks, block_at, records_in}
-use Rattle.evidence.specs.declared.reading.Looked.{Looked}
 use Rattle.evidence.specs.Judged.{header_told, records_told, good_to, byte_of, unit_byte, trailer_told}
 
 -- whole blocks, and two at least; then no more data blocks than may be
@@ -52,9 +51,6 @@ read_of exempt s =
 -- how many records were found good: none where the size or the header is refused
 unfoldable pub good_in : Bool → List ℕ → ℕ
 good_in exempt s = cond (refuses (size_told s then header_told s)) 0 (good_to exempt s)
-
-abbrev pub looked_at : Bool → List ℕ → Looked
-looked_at exempt s = record { answer = read_of exempt s; count = good_in exempt s }
 
 -- a lent list with the first byte of each of them in front
 unfoldable pub places_of : Bool → List ℕ → List ℕ → List ℕ

@@ -14,14 +14,16 @@ pub const FRONT: usize = 119;
 pub const MOST: usize = 4096;
 
 // Blocks of a record with so many bytes of evidence.
+#[tactic(auto, unfolding(crate::specs::Blocks::blocks_for))]
 pub fn blocks_for(length: usize) -> usize
     requires { length < 10000000 }
     ensures { result ≡ blocks_for length }
 {
-    (FRONT + length + 1023) / BLOCK
+    (FRONT + length).div_ceil(BLOCK)
 }
 
 // How many whole blocks there are.
+#[tactic(auto, unfolding(crate::specs::Blocks::blocks_in))]
 pub fn count(file: &[u8]) -> usize
     ensures { result ≡ blocks_in file.now }
 {
@@ -29,6 +31,7 @@ pub fn count(file: &[u8]) -> usize
 }
 
 // Block b.
+#[tactic(auto, unfolding(crate::specs::Blocks::block_at, crate::specs::Blocks::blocks_in))]
 pub fn block(file: &[u8], b: usize) -> &[u8]
     requires { b < blocks_in file.now }
     ensures result_value { result.now ≡ block_at file.now b }
@@ -38,6 +41,7 @@ pub fn block(file: &[u8], b: usize) -> &[u8]
 }
 
 // How many bytes of evidence the record has that begins with block b.
+#[tactic(auto, unfolding(crate::specs::Blocks::length_at, crate::specs::Blocks::blocks_in))]
 pub fn length(file: &[u8], b: usize) -> usize
     requires { b < blocks_in file.now }
     ensures value { result ≡ length_at file.now b }

@@ -1,16 +1,17 @@
 // The counts that header and trailer say, and the keys.
-ghost use Rattle.std.specs.Prelude.{◌≡◌, ℕ, ◌+◌, ◌≤◌, ◌<◌, length, get_or};
+ghost use Rattle.std.specs.Prelude.{◌≡◌, ◌≤◌};
+ghost use Rattle.laws.specs.Least.{least};
 ghost use Rattle.kinds.specs.Kinds.{limit};
+ghost use Rattle.keys.specs.Keys.{repeats_in};
+ghost use Rattle.keys.specs.Keyed.{key_of};
+ghost use Rattle.answers.specs.Refusing.{answer_of};
 ghost use Rattle.evidence.specs.Blocks.{blocks_in, records_in};
-ghost use Rattle.evidence.specs.Judged.{byte_of};
-ghost use Rattle.evidence.specs.Reading.{count_told, counts_told, keys_told};
+ghost use Rattle.evidence.specs.Reading.{count_told, counts_told, repeat_told};
 
 use crate::blocks;
-use answers::told::Answer;
-use keys::chains::SLOTS;
+use answers::refusing::Refusal;
+use keys::keyed::Keys;
 use keys::stands::Spacing;
-use keys::{chains, repeats};
-use kinds::of_files::LIMIT;
 use numbers::base_ten;
 use text::parts;
 
@@ -21,41 +22,34 @@ pub const KEY: Spacing = Spacing {
     size: 61,
 };
 
-// The links of the keys of a file.
-const LINKS: usize = SLOTS + LIMIT;
-
-fn count_tells(said: bool, rec: u64, item: u64) -> Answer
-    ensures { result ≡ count_told said rec item }
+#[tactic(auto, unfolding(crate::specs::Reading::count_told))]
+fn count_tells(said: bool, rec: u64, item: u64) -> Result<(), Refusal>
+    ensures { answer_of result ≡ count_told said rec item }
 {
-    if said {
-        return Answer::accepted();
+    if !said {
+        return Err(Refusal::Total(rec, item));
     }
-    Answer::refused_at(6, rec, item, Answer::UNUSED)
+    Ok(())
 }
 
 // Item 6 of the header, then items 5 and 6 of the trailer.
-pub(crate) fn counts_tell(file: &[u8], n: usize) -> Answer
+pub(crate) fn counts_tell(file: &[u8], n: usize) -> Result<(), Refusal>
     requires bound { 2 ≤ blocks_in file.now }
     requires n_le_limit { n ≤ limit }
     requires n_value { n ≡ records_in file.now }
-    ensures { result ≡ counts_told file.now }
+    ensures { answer_of result ≡ counts_told file.now }
 {
     let header = blocks::block(file, 0);
     let trailer = blocks::block(file, blocks::count(file) - 1);
-    let of_header = count_tells(base_ten::says(parts::part(header, 43, 7), n as u64), 0, 6);
-    if of_header.number != 0 {
-        return of_header;
-    }
-    let number = (n + 1) as u64;
-    let of_records = count_tells(
-        base_ten::says(parts::part(trailer, 35, 7), n as u64),
+    let records = n as u64;
+    let number = records + 1;
+    let held = (blocks::count(file) - 2) as u64;
+    count_tells(base_ten::says(parts::part(header, 43, 7), records), 0, 6)?;
+    count_tells(
+        base_ten::says(parts::part(trailer, 35, 7), records),
         number,
         5,
-    );
-    if of_records.number != 0 {
-        return of_records;
-    }
-    let held = (blocks::count(file) - 2) as u64;
+    )?;
     count_tells(
         base_ten::says(parts::part(trailer, 42, 10), held),
         number,
@@ -63,19 +57,14 @@ pub(crate) fn counts_tell(file: &[u8], n: usize) -> Answer
     )
 }
 
-// The first of n records whose key is an earlier one's; the places hold the first byte of each.
-pub(crate) fn keys_tell(file: &[u8], places: &[u32], n: usize) -> Answer
-    requires n_le_limit { n ≤ limit }
-    requires n_value { n ≡ records_in file.now }
-    requires by_index { (i : ℕ) → i < n → get_or places.now i 0 ≡ byte_of file.now i }
-    requires by_index_2 { (i : ℕ) → i < n → byte_of file.now i + 1024 ≤ length file.now }
-    ensures { result ≡ keys_told file.now }
+// The first record whose key is an earlier one's.
+#[tactic(auto, unfolding(crate::specs::Reading::repeat_told))]
+pub fn keys_tell(keys: Keys) -> Result<(), Refusal>
+    requires { keys.n ≤ limit }
+    ensures { answer_of result ≡ repeat_told keys.entry.n (least (repeats_in (key_of keys.entry)) keys.entry.n) }
 {
-    let mut links = [0u16; LINKS];
-    chains::chain(file, places, KEY, n, &mut links);
-    let i = repeats::first_repeat(file, places, KEY, n, &links);
-    if i < n {
-        return Answer::refused_at(7, (i + 1) as u64, 6, Answer::UNUSED);
+    if let Some(i) = keys.first_repeat() {
+        return Err(Refusal::Repeated((i + 1) as u64, 6));
     }
-    Answer::accepted()
+    Ok(())
 }

@@ -29,14 +29,11 @@ fn blanks(room: &mut [u8], at: usize, size: usize)
     requires { at + size ≤ length room.old }
     ensures { room.new ≡ stored at (blanks size) room.old }
 {
-    let mut i = 0;
-    while i < size {
-        room[at + i] = b' ';
-        i += 1;
-    }
+    room[at..at + size].fill(b' ');
 }
 
 // AE1112 and the record's mark.
+#[tactic(auto, unfolding(crate::specs::Files::marks))]
 fn marks(room: &mut [u8], at: usize, mark: u8)
     requires { at + 8 ≤ length room.old }
     ensures { room.new ≡ stored at (marks mark) room.old }

@@ -15,11 +15,7 @@ fn left_behind(x: &[u8], left: usize) -> usize
     if left < ITEMS {
         return 0;
     }
-    let size = items::said(x, x.len() - left);
-    if left - ITEMS < size {
-        return 0;
-    }
-    left - ITEMS - size
+    left.saturating_sub(ITEMS + items::said(x, x.len() - left))
 }
 
 // How many units there are, and one more than the limit where there are more; any bytes.
@@ -27,13 +23,11 @@ pub fn count(x: &[u8]) -> usize
     ensures { result ≡ units_in x.now }
 {
     let mut left = x.len();
-    let mut i = 0;
-    while i <= LIMIT {
+    for i in 0..LIMIT + 1 {
         if left == 0 {
             return i;
         }
         left = left_behind(x, left);
-        i += 1;
     }
-    i
+    LIMIT + 1
 }

@@ -83,6 +83,10 @@ small b = cond (within 0x41 0x5A b) (b + 0x20) b
 unfoldable pub name_of : List ℕ → ℕ
 name_of s = (((small (get_or s 0 0) * 256 + small (get_or s 1 0)) * 256 + small (get_or s 2 0)) * 256 + small (get_or s 3 0)) * 256 + small (get_or s 4 0)
 
+-- a kind and five bytes, letters small, byte by byte
+unfoldable pub row_of : ℕ → List ℕ → List ℕ
+row_of kind s = kind ∷ small (get_or s 0 0) ∷ small (get_or s 1 0) ∷ small (get_or s 2 0) ∷ small (get_or s 3 0) ∷ small (get_or s 4 0) ∷ []
+
 -- row i allows this extension of this kind
 unfoldable pub allows_at : ℕ → ℕ → ℕ → Bool
 allows_at kind name i = eqb (get_or allowed i 0) (allow kind name)

@@ -1,8 +1,10 @@
 // What may be sent as evidence of each kind.
-ghost use Rattle.std.specs.Prelude.{◌≡◌, ◌<◌};
-ghost use Rattle.evidence_kinds.specs.Evidence.{small, name_of, extension, most_of};
+#![tactic(auto, unfolding(crate::specs::Evidence::small, crate::specs::Evidence::row_of, text::specs::Characters::within))]
 
-use text::{characters, parts};
+ghost use Rattle.std.specs.Prelude.{◌≡◌};
+ghost use Rattle.evidence_kinds.specs.Evidence.{small, row_of, extension, most_of};
+
+use text::parts;
 
 // A kind, and the most bytes of it.
 #[derive(Clone, Copy)]
@@ -43,123 +45,42 @@ const SIZES: [Sized; 6] = [
     },
 ];
 
-// A kind before an extension, and extensions: small letters and spaces.
-const KIND_1: u64 = 0x31_00_0000_0000;
-
-const KIND_2: u64 = 0x32_00_0000_0000;
-
-const KIND_3: u64 = 0x33_00_0000_0000;
-
-const KIND_4: u64 = 0x34_00_0000_0000;
-
-const KIND_5: u64 = 0x35_00_0000_0000;
-
-const KIND_6: u64 = 0x36_00_0000_0000;
-
-const GIF: u64 = 0x67_6966_2020;
-
-const JPG: u64 = 0x6A_7067_2020;
-
-const JPEG: u64 = 0x6A_7065_6720;
-
-const PDF: u64 = 0x70_6466_2020;
-
-const PNG: u64 = 0x70_6E67_2020;
-
-const TIF: u64 = 0x74_6966_2020;
-
-const DER: u64 = 0x64_6572_2020;
-
-const MP3: u64 = 0x6D_7033_2020;
-
-const WAV: u64 = 0x77_6176_2020;
-
-const WMA: u64 = 0x77_6D61_2020;
-
-const TXT: u64 = 0x74_7874_2020;
-
-// Kinds with the extensions that they allow, six bytes as one number.
-const ALLOWED: [u64; 28] = [
-    KIND_1 + GIF,
-    KIND_1 + JPG,
-    KIND_1 + JPEG,
-    KIND_1 + PDF,
-    KIND_1 + TIF,
-    KIND_2 + DER,
-    KIND_3 + GIF,
-    KIND_3 + JPG,
-    KIND_3 + JPEG,
-    KIND_3 + PDF,
-    KIND_3 + TIF,
-    KIND_4 + MP3,
-    KIND_4 + WAV,
-    KIND_4 + WMA,
-    KIND_5 + MP3,
-    KIND_5 + WAV,
-    KIND_5 + WMA,
-    KIND_6 + GIF,
-    KIND_6 + JPG,
-    KIND_6 + JPEG,
-    KIND_6 + PDF,
-    KIND_6 + PNG,
-    KIND_6 + TIF,
-    KIND_6 + DER,
-    KIND_6 + MP3,
-    KIND_6 + WAV,
-    KIND_6 + WMA,
-    KIND_6 + TXT,
+// Kinds, each with an extension that it allows: a byte, then small letters and spaces.
+const ALLOWED: [[u8; 6]; 28] = [
+    *b"1gif  ", *b"1jpg  ", *b"1jpeg ", *b"1pdf  ", *b"1tif  ", *b"2der  ", *b"3gif  ", *b"3jpg  ",
+    *b"3jpeg ", *b"3pdf  ", *b"3tif  ", *b"4mp3  ", *b"4wav  ", *b"4wma  ", *b"5mp3  ", *b"5wav  ",
+    *b"5wma  ", *b"6gif  ", *b"6jpg  ", *b"6jpeg ", *b"6pdf  ", *b"6png  ", *b"6tif  ", *b"6der  ",
+    *b"6mp3  ", *b"6wav  ", *b"6wma  ", *b"6txt  ",
 ];
 
 // Capitals as small letters.
-fn small(byte: u8) -> u64
-    ensures value { result ≡ small byte }
-    ensures upper_bound { result < 256 }
+fn small(byte: u8) -> u8
+    ensures { result ≡ small byte }
 {
-    if characters::within(b'A', b'Z', byte) {
-        return byte as u64 + 32;
-    }
-    byte as u64
+    byte.to_ascii_lowercase()
 }
 
-// Five bytes as one number, letters small.
-fn name(item: &[u8]) -> u64
-    ensures value { result ≡ name_of item.now }
-    ensures upper_bound { result < 0x10000000000 }
+// A kind and an extension as a row of the table.
+fn row(kind: u8, item: &[u8]) -> [u8; 6]
+    ensures { result ≡ row_of kind item.now }
 {
-    let a = small(parts::byte(item, 0));
-    let b = small(parts::byte(item, 1));
-    let c = small(parts::byte(item, 2));
-    let d = small(parts::byte(item, 3));
-    let e = small(parts::byte(item, 4));
-    (((a * 256 + b) * 256 + c) * 256 + d) * 256 + e
+    let [a, b, c, d, e] = [0, 1, 2, 3, 4].map(|i| small(parts::byte(item, i)));
+    [kind, a, b, c, d, e]
 }
 
 // The kind allows the extension, in letters of any case.
 pub fn extension(kind: u8, item: &[u8]) -> bool
     ensures { result ≡ extension kind item.now }
 {
-    let asked = kind as u64 * 0x100_0000_0000 + name(item);
-    let mut i = 0;
-    while i < ALLOWED.len() {
-        if ALLOWED[i] == asked {
-            return true;
-        }
-        i += 1;
-    }
-    false
+    ALLOWED.contains(&row(kind, item))
 }
 
 // The most bytes of evidence of the kind; none of another kind.
 pub fn most(kind: u8) -> u64
     ensures { result ≡ most_of kind }
 {
-    let mut i = 0;
-    while i < SIZES.len() {
-        let row = SIZES[i];
-        if row.kind == kind {
-            return row.most;
-        }
-        i += 1;
-    }
-    0
+    SIZES
+        .iter()
+        .find(|sized| sized.kind == kind)
+        .map_or(0, |sized| sized.most)
 }

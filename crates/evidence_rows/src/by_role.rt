@@ -1,16 +1,12 @@
 // The rows of every record of an evidence file, EI13. A code is its four bytes as one number; "0000" where breaking the rule is refusal 5.
 ghost use Rattle.std.specs.Prelude.{◌≡◌};
-ghost use Rattle.rows.specs.Laid.{laid_out};
-ghost use Rattle.evidence_rows.specs.Tables.{header_rows, ordinary_rows, exempt_rows, data_rows, trailer_rows};
+ghost use Rattle.evidence_rows.specs.Tables.{header_rows, data_rows, trailer_rows};
 
 use kinds::of_files::Own;
-use rows::by_record::MOST;
 use tables::row::{Class, Row};
 
 // No rule of these rows asks for a kind's own name or least amount.
 pub const NO_OWN: Own = Own { name: 0, least: 0 };
-
-const BLANK: Row = Row(0, 0, 0, Class::Each(0, 0), 0);
 
 const NINES: Class = Class::Each(b'9', b'9');
 
@@ -36,7 +32,7 @@ const C0102: u32 = 0x3031_3032;
 
 const C9998: u32 = 0x3939_3938;
 
-const HEADER: [Row; MOST] = [
+const HEADER: [Row; 11] = [
     Row(1, 0, 1, Class::Each(b'A', b'A'), C0081),
     Row(1, 1, 1, Class::Each(b'E', b'E'), C0081),
     Row(1, 2, 3, Class::Each(b'1', b'1'), C0081),
@@ -48,16 +44,9 @@ const HEADER: [Row; MOST] = [
     Row(5, 33, 10, SPACES, C0088),
     Row(6, 43, 7, DIGITS, C0088),
     Row(7, 50, 974, SPACES, C0089),
-    BLANK,
-    BLANK,
-    BLANK,
-    BLANK,
-    BLANK,
-    BLANK,
-    BLANK,
 ];
 
-const ORDINARY: [Row; MOST] = [
+const ORDINARY: [Row; 17] = [
     Row(1, 0, 1, Class::Each(b'A', b'A'), C0081),
     Row(1, 1, 1, Class::Each(b'E', b'E'), C0081),
     Row(1, 2, 3, Class::Each(b'1', b'1'), C0081),
@@ -75,10 +64,9 @@ const ORDINARY: [Row; MOST] = [
     Row(10, 106, 1, Class::Each(b'1', b'6'), C0101),
     Row(11, 107, 5, Class::Extension, C0102),
     Row(12, 112, 7, DIGITS, C0088),
-    BLANK,
 ];
 
-const EXEMPT: [Row; MOST] = [
+const EXEMPT: [Row; 17] = [
     Row(1, 0, 1, Class::Each(b'A', b'A'), C0081),
     Row(1, 1, 1, Class::Each(b'E', b'E'), C0081),
     Row(1, 2, 3, Class::Each(b'1', b'1'), C0081),
@@ -96,10 +84,9 @@ const EXEMPT: [Row; MOST] = [
     Row(10, 106, 1, Class::Each(b'1', b'6'), C0101),
     Row(11, 107, 5, SPACES, C0102),
     Row(12, 112, 7, DIGITS, C0088),
-    BLANK,
 ];
 
-const TRAILER: [Row; MOST] = [
+const TRAILER: [Row; 12] = [
     Row(1, 0, 1, Class::Each(b'A', b'A'), C0081),
     Row(1, 1, 1, Class::Each(b'E', b'E'), C0081),
     Row(1, 2, 3, Class::Each(b'1', b'1'), C0081),
@@ -112,46 +99,28 @@ const TRAILER: [Row; MOST] = [
     Row(5, 35, 7, DIGITS, C0088),
     Row(6, 42, 10, DIGITS, C0088),
     Row(7, 52, 972, SPACES, C0089),
-    BLANK,
-    BLANK,
-    BLANK,
-    BLANK,
-    BLANK,
-    BLANK,
 ];
 
 // The header's rows.
-pub fn header_rows() -> [Row; MOST]
-    ensures { result ≡ laid_out header_rows }
+pub fn header_rows() -> &'static [Row]
+    ensures { result.now ≡ header_rows }
 {
-    HEADER
-}
-
-fn ordinary() -> [Row; MOST]
-    ensures { result ≡ laid_out ordinary_rows }
-{
-    ORDINARY
-}
-
-fn exempt() -> [Row; MOST]
-    ensures { result ≡ laid_out exempt_rows }
-{
-    EXEMPT
+    &HEADER
 }
 
 // The rows of items 1 to 12 of a data record, by the institution's profile.
-pub fn data_rows(partly_exempt: bool) -> [Row; MOST]
-    ensures { result ≡ laid_out (data_rows partly_exempt) }
+pub fn data_rows(partly_exempt: bool) -> &'static [Row]
+    ensures { result.now ≡ data_rows partly_exempt }
 {
     if partly_exempt {
-        return exempt();
+        return &EXEMPT;
     }
-    ordinary()
+    &ORDINARY
 }
 
 // The trailer's rows.
-pub fn trailer_rows() -> [Row; MOST]
-    ensures { result ≡ laid_out trailer_rows }
+pub fn trailer_rows() -> &'static [Row]
+    ensures { result.now ≡ trailer_rows }
 {
-    TRAILER
+    &TRAILER
 }

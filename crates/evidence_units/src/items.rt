@@ -9,6 +9,7 @@ use text::parts;
 pub const ITEMS: usize = 74;
 
 // How many bytes of evidence the unit says that begins at place p.
+#[tactic(auto, unfolding(crate::specs::Units::said_at))]
 pub fn said(x: &[u8], p: usize) -> usize
     requires { p + 74 ≤ length x.now }
     ensures value { result ≡ said_at x.now p }

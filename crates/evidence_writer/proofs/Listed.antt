@@ -30,6 +30,6 @@ module _ (x places : List ℕ) (n : ℕ) (holds : (i : ℕ) → i < n → get_or
   keys-inside inside = listed-inside places x 0 61 n (place_of x) holds (λ i h. omega (arith, inside i h))
 
   -- and the first that repeats tells of the units'
-  pub keys-by : (i : ℕ) → n ≡ units_in x → i ≡ least (repeats_in (key_in places (anywhere 0 61) x)) n → repeat_told n i ≡ keys_told x
+  pub keys-by : n ≡ units_in x → repeat_told n (least (repeats_in (key_in places (anywhere 0 61) x)) n) ≡ keys_told x
   unfolding keys_told
-  keys-by i all e = rw (← all) (ap (repeat_told n) (e ∙ first-same _ _ n listed))
+  keys-by all = rw (← all) (ap (repeat_told n) (first-same _ _ n listed))

@@ -1,23 +1,18 @@
 -- What is stored: a front with its items, records one behind the other, and the file at the front of the room.
 -- Assumes nothing.
-use Prim.Native.Nat.{ℕ, ◌+◌, ◌*◌, ◌≤◌, ◌<◌, zero-le}
+use Prim.Native.Nat.{ℕ, ◌+◌, ◌*◌, ◌≤◌, zero-le}
 use mathlib.Core.Bool.{Bool}
 use mathlib.Core.List.{List, ◌++◌}
-use mathlib.Core.Path.{◌≡◌, refl, sym, ◌∙◌, ap}
-use native.Mathlib.Nat.{zero-add}
+use mathlib.Core.Path.{◌≡◌, sym, ◌∙◌, ap}
 use native.Mathlib.Omega.{arith}
-use borrow.Author.Tests.{le-leb, lt-leb}
 use lib.ListN.{length, length-append}
 use Rattle.laws.specs.Joined.{joined}
 use Rattle.laws.specs.Part.{part}
 use Rattle.laws.specs.Stored.{stored}
 use Rattle.laws.proofs.Parts.{part_length}
 use Rattle.laws.proofs.Stores.{stored-then, stored-all}
-use Rattle.answers.specs.declared.told.Answer.{Answer}
-use Rattle.answers.specs.declared.told.Stored.{Stored}
-use Rattle.answers.specs.Answers.{accepted, refused}
-use Rattle.answers.specs.Storing.{unless_refused}
-use Rattle.answers.proofs.Refusals.{refuses-is, refuses-not, then-first, then-second}
+use Rattle.answers.specs.Storing.{Stored, room_tells}
+use Rattle.answers.proofs.Stored.{Told}
 use Rattle.evidence.specs.Blocks.{block}
 use Rattle.evidence_units.specs.Units.{items}
 use Rattle.evidence_builder.specs.Units.{units_in, blocks_to}
@@ -71,30 +66,7 @@ module _ (exempt : Bool) (date code x : List ℕ) where
       (omega (arith, records-long code g.code-long x n (given-whole exempt date code x g))) fits)
       (omega (arith, header-long code g.code-long date n g.date-long)) zero-le
 
-  -- what is told: what was decided, then 8
-  module _ (room : ℕ) where
-    pub told-decided : ((decided exempt date code x).number ≡ 0 → ⊥) → write_told exempt date code x room ≡ decided exempt date code x
-    unfolding write_told
-    told-decided ne = then-first (decided exempt date code x) _ ne
-
-    pub told-8 : (decided exempt date code x).number ≡ 0 → room < length (file_of date code x) → write_told exempt date code x room ≡ refused 8
-    unfolding write_told
-    told-8 z l = then-second (decided exempt date code x) _ z ∙ rw (lt-leb (length (file_of date code x)) room l)
-
-    pub told-good : (decided exempt date code x).number ≡ 0 → length (file_of date code x) ≤ room → write_told exempt date code x room ≡ accepted
-    unfolding write_told
-    told-good z l = then-second (decided exempt date code x) _ z ∙ rw (le-leb (length (file_of date code x)) room l)
-
-  -- and what is stored by it: nothing, or the file
-  module _ (room : List ℕ) (answer : Answer) (told : write_told exempt date code x (length room) ≡ answer) where
-    pub write-refused :
-        (answer.number ≡ 0 → ⊥) →
-        (◌≡◌ {A = Stored} (record { answer = answer; size = 0 }) (write_of exempt date code x (length room))) × (room ≡ write_after exempt date code x room)
-    unfolding write_of write_after write_stored unless_refused
-    write-refused ne = rw (told, refuses-is answer ne) (refl, refl)
-
-    pub write-good :
-        (size : ℕ) (last : List ℕ) → answer.number ≡ 0 → size ≡ length (file_of date code x) → last ≡ stored 0 (file_of date code x) room →
-        (◌≡◌ {A = Stored} (record { answer = answer; size = size }) (write_of exempt date code x (length room))) × (last ≡ write_after exempt date code x room)
-    unfolding write_of write_after write_stored unless_refused
-    write-good size last z s e = rw (told, refuses-not answer z, s) (refl, e ∙ rw (zero-add (length (file_of date code x))))
+  -- what is told of a decision and of the room, and what the room holds, is what writing says
+  pub written : (room : List ℕ) (t : Stored) (after : List ℕ) → Told (decided exempt date code x) (file_of date code x) room t after → (t ≡ write_of exempt date code x (length room)) × (after ≡ write_after exempt date code x room)
+  unfolding write_of write_after write_stored write_told room_tells
+  written room t after q = q

@@ -3,9 +3,8 @@ use Rattle.std.specs.Prelude.{ℕ, ◌+◌, ◌≤◌, ◌<◌, Bool, cond, ◌&
 use Rattle.laws.specs.Least.{least}
 use Rattle.laws.specs.Part.{part}
 use Rattle.answers.specs.declared.told.Answer.{Answer}
-use Rattle.answers.specs.declared.told.Stored.{Stored}
+use Rattle.answers.specs.Storing.{Stored, unless_refused, storing, at_front}
 use Rattle.answers.specs.Answers.{accepted, refused, refused_at, refuses_at, first_told, ◌then◌}
-use Rattle.answers.specs.Storing.{unless_refused, storing, at_front}
 use Rattle.keys.specs.Keys.{repeats_in}
 use Rattle.kinds.specs.Kinds.{limit}
 use Rattle.evidence_rows.specs.Tables.{header_rows, data_rows}

@@ -2,13 +2,14 @@
 ghost use Rattle.std.specs.Prelude.{◌≡◌, ◌+◌, ◌*◌, ◌≤◌, length};
 ghost use Rattle.laws.specs.Joined.{joined};
 ghost use Rattle.laws.specs.Stored.{stored};
+ghost use Rattle.answers.specs.Storing.{stored_by};
 ghost use Rattle.evidence.specs.Blocks.{block, most_blocks};
 ghost use Rattle.evidence_builder.specs.Units.{blocks_to};
 ghost use Rattle.evidence_builder.specs.Files.{record_of};
 ghost use Rattle.evidence_writer.specs.Writing.{write_of, write_after, Whole};
 
 use crate::deciding;
-use answers::told::{Answer, Stored};
+use answers::refusing::Refusal;
 use evidence::blocks;
 use evidence::blocks::BLOCK;
 use evidence_builder::files;
@@ -26,35 +27,32 @@ fn store_records(x: &[u8], code: &[u8], n: usize, room: &mut [u8])
 {
     let mut p = 0;
     let mut at = BLOCK;
-    let mut i = 0;
-    while i < n {
+    for i in 0..n {
         let said = items::said(x, p);
         files::put_record(room, at, code, i + 1, parts::part(x, p, ITEMS + said), said);
         p += ITEMS + said;
         at += blocks::blocks_for(said) * BLOCK;
-        i += 1;
     }
 }
 
-// Writes the file at the front of the room, or says why not and leaves the room as it was.
-pub fn write(exempt: bool, date: &[u8], code: &[u8], x: &[u8], room: &mut [u8]) -> Stored
-    ensures value { result ≡ write_of exempt date.now code.now x.now (length room.old) }
+// Writes the file at the front of the room and says how long it is, or says why not and leaves the room as it was.
+pub fn write(
+    exempt: bool,
+    date: &[u8],
+    code: &[u8],
+    x: &[u8],
+    room: &mut [u8],
+) -> Result<usize, Refusal>
+    ensures value { stored_by result ≡ write_of exempt date.now code.now x.now (length room.old) }
     ensures room_after { room.new ≡ write_after exempt date.now code.now x.now room.old }
 {
-    let decided = deciding::decide(exempt, date, code, x);
-    let answer = decided.answer;
-    if answer.number != 0 {
-        return Stored { answer, size: 0 };
-    }
-    let size = (decided.blocks + 2) * BLOCK;
+    let units = deciding::decide(exempt, date, code, x)?;
+    let size = (units.blocks + 2) * BLOCK;
     if room.len() < size {
-        return Stored {
-            answer: Answer::refused(8),
-            size: 0,
-        };
+        return Err(Refusal::ShortRoom);
     }
-    files::put_header(room, date, code, decided.count);
-    store_records(x, code, decided.count, room);
-    files::put_trailer(room, size - BLOCK, code, decided.count, decided.blocks);
-    Stored { answer, size }
+    files::put_header(room, date, code, units.count);
+    store_records(x, code, units.count, room);
+    files::put_trailer(room, size - BLOCK, code, units.count, units.blocks);
+    Ok(size)
 }

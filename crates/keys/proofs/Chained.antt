@@ -1,26 +1,40 @@
 -- The last place where, and the chains that find it: a chain passes every key of its slot, so the last of a kind is on it.
 -- Assumes nothing.
+use Rattle.std.specs.Prelude.{Option}
+use Rattle.std.specs.Option.{is_some}
 use Prim.Native.Nat.{ℕ, zero, suc, ◌+◌, ◌-◌, ◌≤◌, ◌<◌, zero-le}
-use mathlib.Core.Bool.{Bool, true, false}
+use mathlib.Core.Bool.{Bool, true, false, cond}
 use mathlib.Core.List.{List}
 use mathlib.Core.Path.{◌≡◌, refl, sym, ◌∙◌, ap}
 use mathlib.Core.Logic.{⊎_elim}
-use native.Mathlib.Nat.{le_refl, le_trans, mod-lt, eq-or-lt_of_le, le_of_suc-le-suc, not-suc-le-zero}
+use native.Mathlib.Nat.{le_refl, mod-lt, eq-or-lt_of_le, le_of_suc-le-suc, not-suc-le-zero}
 use native.Mathlib.Numerals.{add-one}
 use native.Mathlib.Omega.{arith}
-use borrow.Author.Count.{below_more}
-use borrow.Author.Tests.{eq-eqb, eqb-true, eqb-false, ltb-true, ltb-false}
+use borrow.Author.Tests.{lt-ltb, eq-eqb, eqb-true, eqb-false, ltb-true, ltb-false}
 use lib.Dec.{eqb, ltb}
 use lib.ListN.{length, get_or, set, replicate, length-set, length-replicate, get_or-replicate}
-use lib.Seq.{get_or-set_same, get_or-set_other, ext_get_or}
+use lib.Seq.{get_or-set_same, get_or-set_other}
 use Rattle.laws.specs.Least.{some}
 use Rattle.laws.specs.Part.{same}
 use Rattle.laws.specs.Sum.{sum}
 use Rattle.laws.proofs.Bools.{either, clash}
 use Rattle.laws.proofs.Leasts.{least-none, some-true, some-false}
 use Rattle.laws.proofs.Parts.{same-equal}
-use Rattle.keys.specs.Keys.{has_key_in}
+use Rattle.keys.specs.Keys.{has_key_in, from_one, counted}
 use Rattle.keys.specs.Chains.{slots, last, slot_of, in_slot, Chained, Link, links_with, no_links, links_of}
+
+-- a number counted from 1 is the number of the place that it counts
+pub counted-from : (x : ℕ) → counted (from_one x) ≡ x
+counted-from zero = refl
+counted-from (suc k) = refl
+
+pub counted-is : (at : Option ℕ) (x : ℕ) → at ≡ from_one x → counted at ≡ x
+counted-is at x e = rw e (counted-from x)
+
+-- it is some place where it is not 0
+pub some-from : (x : ℕ) → ltb 0 x ≡ is_some (from_one x)
+some-from zero = refl
+some-from (suc k) = lt-ltb 0 (suc k) (omega arith)
 
 module _ (p : ℕ → Bool) where
   -- one place more: it is the last, or the last is the one so far
@@ -67,10 +81,6 @@ module _ (p : ℕ → Bool) where
 
   pub last_none : (n : ℕ) → last p n ≡ 0 → (i : ℕ) → i < n → p i ≡ false
   last_none n e i h = last-above n i (rw e zero-le) h
-
-  pub last_found : (n i : ℕ) → i < n → p i ≡ true → 0 < last p n
-  last_found n i h t =
-      ⊎_elim (λ l. ltb-true 0 (last p n) l) (λ f. absurd (clash t (last-above n i (le_trans (ltb-false 0 (last p n) f) zero-le) h))) (either (ltb 0 (last p n)))
 
   pub last_some : (n : ℕ) → some p n ≡ ltb 0 (last p n)
   last_some n = ⊎_elim found missing (either (ltb 0 (last p n)))
@@ -155,19 +165,6 @@ none-cleared old links e = e ∙ rw (e, length-replicate (length old))
 pub none-zeros : (n : ℕ) → replicate n 0 ≡ no_links (replicate n 0)
 unfolding no_links
 none-zeros n = rw length-replicate
-
--- a loop that clears the links from the front
-abbrev pub Cleared : ℕ → List ℕ → Type 0
-Cleared i links = (k : ℕ) → k < i → get_or links k 0 ≡ 0
-
-pub cleared_more : (i : ℕ) (links : List ℕ) → i < length links → Cleared i links → Cleared (i + 1) (set links i 0)
-cleared_more i links h f =
-    below_more (λ k. get_or (set links i 0) k 0 ≡ 0) i (λ k l. get_or-set_other links i k 0 0 (λ e. absurd (omega arith)) ∙ f k l) (get_or-set_same links i 0 0 h)
-
-pub cleared-all : (old links : List ℕ) → length links ≡ length old → Cleared (length old) links → links ≡ no_links old
-unfolding no_links
-cleared-all old links e f =
-    ext_get_or 0 links _ (e ∙ sym (length-replicate (length old) 0)) (λ k h. let l = rw e at h in f k l ∙ sym (get_or-replicate (length old) k 0 0 l))
 
 -- a loop that chains key after key
 pub links-start : (key : ℕ → List ℕ) (links : List ℕ) → links ≡ no_links links → links ≡ links_of key 0 links
@@ -264,23 +261,19 @@ module _ (key : ℕ → List ℕ) where
       unfolding in_slot
       along-before i h t = rw (c.befores i h, eqb-true (slot_of (key i)) (slot_of one) t) (last-skip _ _ i (λ j _. slot_has key one j))
 
-    -- a loop along a chain: the next link, which is earlier, and what is found there is what is found here unless this is it
-    module _ (at : ℕ) (left : 0 < at) where
-      back : at ≡ at - 1 + 1
-      back = omega arith
+    -- a loop along a chain: from key i of it the next link, which is earlier, and what is found there is what is found here unless this is it
+    module _ (b i : ℕ) (l : Link key n b (suc i)) where
+      here : in_slot key b i ≡ true
+      here = l.goes i (sym (add-one i))
 
-      pub link-more : (b : ℕ) → Link key n b at → Link key n b (get_or links (slots + (at - 1)) 0)
-      link-more b l = link-before b (at - 1) (omega (arith, l.within)) (l.goes (at - 1) back)
+      pub link-more : Link key n b (get_or links (slots + i) 0)
+      link-more = link-before b i l.within here
 
-      pub link-less : at ≤ n → get_or links (slots + (at - 1)) 0 < at
-      link-less h = rw (c.befores (at - 1) (omega arith)) (omega (arith, last_within (in_slot key (slot_of (key (at - 1)))) (at - 1)))
+    pub link-less : (i : ℕ) → i < n → get_or links (slots + i) 0 < suc i
+    link-less i h = rw (c.befores i h) (omega (arith, last_within (in_slot key (slot_of (key i))) i))
 
-      pub along-stop : (one : List ℕ) → has_key_in key one (at - 1) ≡ true → last (has_key_in key one) at ≡ at
-      along-stop one t = rw back (last-here (has_key_in key one) (at - 1) t)
-
-      pub along-more :
-          (one : List ℕ) → Link key n (slot_of one) at → has_key_in key one (at - 1) ≡ false →
-          last (has_key_in key one) at ≡ last (has_key_in key one) (get_or links (slots + (at - 1)) 0)
-      along-more one l f =
-          ap (last (has_key_in key one)) back ∙
-          (last-past (has_key_in key one) (at - 1) f ∙ along-before one (at - 1) (omega (arith, l.within)) (l.goes (at - 1) back))
+    pub along-more :
+        (one : List ℕ) (i : ℕ) → Link key n (slot_of one) (suc i) → has_key_in key one i ≡ false →
+        last (has_key_in key one) (suc i) ≡ last (has_key_in key one) (get_or links (slots + i) 0)
+    unfolding last
+    along-more one i l f = ap (λ (b : Bool). cond b (suc i) (last (has_key_in key one) i)) f ∙ along-before one i l.within (here (slot_of one) i l)

@@ -1,11 +1,12 @@
 -- What a search along a chain tells: whether a key is an earlier one, and the first key that is the one looked for, which is met last.
 -- Assumes nothing.
-use Prim.Native.Nat.{ℕ, ◌+◌, ◌-◌, ◌≤◌, ◌<◌}
+use Prim.Native.Nat.{ℕ, suc, ◌+◌, ◌≤◌, ◌<◌}
 use mathlib.Core.Bool.{Bool, true, false}
 use mathlib.Core.List.{List}
 use mathlib.Core.Path.{◌≡◌, sym, ◌∙◌, ap}
 use mathlib.Core.Logic.{⊎_elim}
-use native.Mathlib.Nat.{le_refl, eq-or-lt_of_le}
+use native.Mathlib.Nat.{le_refl, eq-or-lt_of_le, le_of_suc-le-suc}
+use native.Mathlib.Numerals.{add-one}
 use native.Mathlib.Omega.{arith}
 use borrow.Author.Tests.{eqb-true, lt-ltb, le-ltb, ltb-true, ltb-false}
 use lib.Dec.{ltb}
@@ -16,7 +17,7 @@ use Rattle.laws.proofs.Leasts.{least-is, least-only}
 use Rattle.laws.proofs.Parts.{same-equal}
 use Rattle.keys.specs.Keys.{shares_in, repeats_in, has_key_in, place_in}
 use Rattle.keys.specs.Chains.{slots, last, slot_of, in_slot, Chained, Link}
-use Rattle.keys.proofs.Chained.{last-start, last-above, last_some, last-same, slot-within, slot_has}
+use Rattle.keys.proofs.Chained.{last-above, last_some, last-same, slot-within, slot_has}
 
 -- the same, either way round
 same-turned : (a b : List ℕ) → same a b ≡ same b a
@@ -37,10 +38,8 @@ module _ (key : ℕ → List ℕ) (i : ℕ) where
   pub repeats-found : (at : ℕ) → 0 < at → last (has_key_in key (key i)) i ≡ at → repeats_in key i ≡ true
   repeats-found at h e = repeats-last ∙ rw e (lt-ltb 0 at h)
 
-  pub repeats-none : (at : ℕ) → at ≤ 0 → last (has_key_in key (key i)) i ≡ last (has_key_in key (key i)) at → repeats_in key i ≡ false
-  repeats-none at h e =
-      let z : at ≡ 0 = omega arith in
-      repeats-last ∙ rw (e, z, last-start (has_key_in key (key i))) (le-ltb 0 0 (le_refl 0))
+  pub repeats-none : last (has_key_in key (key i)) i ≡ 0 → repeats_in key i ≡ false
+  repeats-none e = repeats-last ∙ rw e (le-ltb 0 0 (le_refl 0))
 
 -- the first that was met so far, when the places from `at` on were passed; n where none was
 pub record Seen (p : ℕ → Bool) (n at found : ℕ) : Type 0 where
@@ -61,31 +60,28 @@ module _ (key : ℕ → List ℕ) (n : ℕ) (links : List ℕ) (c : Chained key 
     before = λ k g l. other-slot k (last-above (in_slot key (slot_of one)) n k (rw (c.lasts (slot_of one) (slot-within one)) at g) l);
   }
 
-  module _ (at : ℕ) (left : 0 < at) (link : Link key n (slot_of one) at) where
+  module _ (i : ℕ) (link : Link key n (slot_of one) (suc i)) where
     -- none between a key of the chain and the one before it
-    between : (k : ℕ) → get_or links (slots + (at - 1)) 0 ≤ k → k < at - 1 → has_key_in key one k ≡ false
+    between : (k : ℕ) → get_or links (slots + i) 0 ≤ k → k < i → has_key_in key one k ≡ false
     unfolding in_slot
     between k g l =
-        let e = c.befores (at - 1) (omega (arith, link.within)) in
-        let s = eqb-true (slot_of (key (at - 1))) (slot_of one) (link.goes (at - 1) (omega arith)) in
-        other-slot k (last-above (in_slot key (slot_of one)) (at - 1) k (rw (e, s) at g) l)
+        let s = eqb-true (slot_of (key i)) (slot_of one) (link.goes i (sym (add-one i))) in
+        other-slot k (last-above (in_slot key (slot_of one)) i k (rw (c.befores i link.within, s) at g) l)
 
-    pub seen_here : has_key_in key one (at - 1) ≡ true → Seen (has_key_in key one) n (get_or links (slots + (at - 1)) 0) (at - 1)
+    pub seen_here : has_key_in key one i ≡ true → Seen (has_key_in key one) n (get_or links (slots + i) 0) i
     seen_here t = record { within = omega (arith, link.within); holds = λ _. t; before = between }
 
     pub seen-past :
-        (found : ℕ) → has_key_in key one (at - 1) ≡ false → Seen (has_key_in key one) n at found →
-        Seen (has_key_in key one) n (get_or links (slots + (at - 1)) 0) found
+        (found : ℕ) → has_key_in key one i ≡ false → Seen (has_key_in key one) n (suc i) found →
+        Seen (has_key_in key one) n (get_or links (slots + i) 0) found
     seen-past found f s = record {
       within = s.within;
       holds = s.holds;
-      before = λ k g l. ⊎_elim (λ b. here k g (ltb-true k at b)) (λ b. s.before k (ltb-false k at b) l) (either (ltb k at));
+      before = λ k g l. ⊎_elim (λ b. past k g (ltb-true k (suc i) b)) (λ b. s.before k (ltb-false k (suc i) b) l) (either (ltb k (suc i)));
     }
       where
-        here : (k : ℕ) → get_or links (slots + (at - 1)) 0 ≤ k → k < at → has_key_in key one k ≡ false
-        here k g b =
-            let l : k ≤ at - 1 = omega arith in
-            ⊎_elim (λ e. rw e f) (between k g) (eq-or-lt_of_le l)
+        past : (k : ℕ) → get_or links (slots + i) 0 ≤ k → k < suc i → has_key_in key one k ≡ false
+        past k g b = ⊎_elim (λ e. rw e f) (between k g) (eq-or-lt_of_le (le_of_suc-le-suc b))
 
   pub seen_end : (at found : ℕ) → at ≤ 0 → Seen (has_key_in key one) n at found → found ≡ place_in key n one
   unfolding place_in

@@ -10,8 +10,17 @@ use Rattle.laws.specs.Least.{least, further, some, none}
 use Rattle.laws.specs.Part.{part, same, differ}
 use Rattle.laws.proofs.Leasts.{least-same}
 use Rattle.keys.specs.declared.stands.Spacing.{Spacing}
+use Rattle.keys.specs.declared.keyed.Keys.{Keys}
 use Rattle.keys.specs.Keys.{shares_in, repeats_in, has_key_in, place_in}
 use Rattle.keys.specs.Stands.{start_of, key_in, Inside}
+use Rattle.keys.specs.Keyed.{key_of}
+
+-- keys by what they are made of
+pub keys-are :
+    (k : Keys) (places : List ℕ) (spacing : Spacing) (s : List ℕ) → k.places.now ≡ places → k.spacing ≡ spacing → k.s.now ≡ s →
+    key_of k ≡ key_in places spacing s
+keys-are k places spacing s p d e =
+    ap (λ (x : List ℕ). key_in x k.spacing k.s.now) p ∙ (ap (λ (x : Spacing). key_in places x k.s.now) d ∙ ap (key_in places spacing) e)
 
 pub spaced-start : (k : Spacing) (i : ℕ) → start_of [] k i ≡ i * k.stride + k.offset
 unfolding start_of

@@ -1,5 +1,5 @@
 -- Keys by their numbers from 0 on: `key i` are the bytes of key i. Which repeats an earlier one, and where one stands among them.
-use Rattle.std.specs.Prelude.{ℕ, ◌<◌, Bool, cond, List, ◌≡◌, ltb}
+use Rattle.std.specs.Prelude.{ℕ, zero, suc, ◌<◌, Bool, cond, List, ◌≡◌, ltb, Option, None, Some}
 use Rattle.laws.specs.Least.{least, some}
 use Rattle.laws.specs.Part.{same}
 use Rattle.laws.specs.Tabulate.{tabulate}
@@ -28,3 +28,16 @@ place_for key n other m j = cond (ltb j m) (place_in key n (other j)) 0
 
 unfoldable pub places_in : (ℕ → List ℕ) → ℕ → (ℕ → List ℕ) → ℕ → ℕ → List ℕ
 places_in key n other m room = tabulate (place_for key n other m) room
+
+-- a place as one of n, or none of them
+abbrev pub below : ℕ → ℕ → Option ℕ
+below n k = cond (ltb k n) (Some k) None
+
+-- a number that counts a place from 1, 0 where there is none, as that place, and back
+abbrev pub from_one : ℕ → Option ℕ
+from_one zero = None
+from_one (suc k) = Some k
+
+abbrev pub counted : Option ℕ → ℕ
+counted None = 0
+counted (Some k) = suc k

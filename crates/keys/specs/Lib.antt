@@ -3,3 +3,4 @@ pub mod Keys
 pub mod Stands
 pub mod Hashes
 pub mod Chains
+pub mod Keyed

@@ -3,6 +3,6 @@
 
 pub mod chains;
 mod hashes;
-pub mod places;
-pub mod repeats;
+pub mod keyed;
+pub mod linked;
 pub mod stands;

@@ -1,3 +1,4 @@
 -- Laws about the kinds.
+pub mod Finding
 pub mod Forms
 pub mod Known

@@ -1,12 +1,10 @@
 -- The file kinds: each is a form with its own name and numbers.
-use Rattle.std.specs.Prelude.{ℕ, Bool, true, false, cond, List, [], ◌∷◌, eqb, ltb, length, get_or}
+use Rattle.std.specs.Prelude.{ℕ, Bool, true, false, cond, List, [], ◌∷◌, eqb, ltb, length, get_or, Option, Some, None}
 use Rattle.laws.specs.Least.{least}
 use Rattle.kinds.specs.declared.of_files.Form.{Form}
 use Rattle.kinds.specs.declared.of_files.Form.TheVariants.{EnrolmentRequest, EnrolmentResult, DebitRequest, DebitResult, BankEnrolment}
 use Rattle.kinds.specs.declared.of_files.Own.{Own}
 use Rattle.kinds.specs.declared.of_files.Kind.{Kind}
-use Rattle.kinds.specs.declared.of_files.Named.{Named}
-use Rattle.kinds.specs.declared.of_files.Named.TheVariants.{Is, Unknown}
 use Rattle.kinds.specs.declared.of_files.Fixed.{Fixed}
 
 -- the most data records that a file may have
@@ -96,25 +94,25 @@ fixed_of k = fixed_for k.form
 abbrev pub no_kind : Kind
 no_kind = kind EnrolmentRequest (own 0 0)
 
-unfoldable pub kind_from : ℕ → Named
-kind_from i = cond (ltb i (length kinds)) (Is (get_or kinds i no_kind)) Unknown
+unfoldable pub kind_from : ℕ → Option Kind
+kind_from i = cond (ltb i (length kinds)) (Some (get_or kinds i no_kind)) None
 
 unfoldable pub name_is : ℕ → ℕ → Bool
 name_is n i = eqb (get_or kinds i no_kind).own.name n
 
 -- the kind that a number names; every other number is an unknown kind
-unfoldable pub kind_of : ℕ → Named
+unfoldable pub kind_of : ℕ → Option Kind
 kind_of n = kind_from (least (name_is n) (length kinds))
 
 -- the same of kinds of which a test of their numbers holds: every other number is none of them
-abbrev pub whose : (Fixed → Bool) → Named → Named
-whose p (Is k) = cond (p (fixed_of k)) (Is k) Unknown
-whose p Unknown = Unknown
+abbrev pub whose : (Fixed → Bool) → Option Kind → Option Kind
+whose p (Some k) = cond (p (fixed_of k)) (Some k) None
+whose p None = None
 
 -- of kinds that are written
-unfoldable pub request_of : ℕ → Named
+unfoldable pub request_of : ℕ → Option Kind
 request_of n = whose (λ f. f.written) (kind_of n)
 
 -- of kinds that go into a day file
-unfoldable pub daily_of : ℕ → Named
+unfoldable pub daily_of : ℕ → Option Kind
 daily_of n = whose (λ f. f.daily) (kind_of n)

@@ -1,5 +1,5 @@
 -- The pair kinds: each is a family with what its request and its result have of their own.
-use Rattle.std.specs.Prelude.{ℕ, Bool, cond, List, [], ◌∷◌, eqb, ltb, length, get_or}
+use Rattle.std.specs.Prelude.{ℕ, Bool, cond, List, [], ◌∷◌, eqb, ltb, length, get_or, Option, Some, None}
 use Rattle.laws.specs.Least.{least}
 use Rattle.kinds.specs.declared.of_files.Form.TheVariants.{EnrolmentRequest, EnrolmentResult, DebitRequest, DebitResult}
 use Rattle.kinds.specs.declared.of_files.Own.{Own}
@@ -7,8 +7,6 @@ use Rattle.kinds.specs.declared.of_files.Kind.{Kind}
 use Rattle.kinds.specs.declared.of_pairs.Family.{Family}
 use Rattle.kinds.specs.declared.of_pairs.Family.TheVariants.{Enrolment, Debit}
 use Rattle.kinds.specs.declared.of_pairs.PairKind.{PairKind}
-use Rattle.kinds.specs.declared.of_pairs.PairNamed.{PairNamed}
-use Rattle.kinds.specs.declared.of_pairs.PairNamed.TheVariants.{Is, Unknown}
 use Rattle.kinds.specs.Kinds.{own, kind, fixed_of, own_eb13, own_eb14, own_eb21, own_eb22, own_ec21, own_ec22}
 
 abbrev pub pair_kind : Family → Own → Own → PairKind
@@ -55,12 +53,12 @@ agreed p = (fixed_of (request_kind p)).agreed
 abbrev pub no_pair : PairKind
 no_pair = pair_kind Enrolment (own 0 0) (own 0 0)
 
-unfoldable pub pair_from : ℕ → PairNamed
-pair_from i = cond (ltb i (length pairs)) (Is (get_or pairs i no_pair)) Unknown
+unfoldable pub pair_from : ℕ → Option PairKind
+pair_from i = cond (ltb i (length pairs)) (Some (get_or pairs i no_pair)) None
 
 unfoldable pub request_is : ℕ → ℕ → Bool
 request_is n i = eqb (get_or pairs i no_pair).request.name n
 
 -- the pair kind that a number names; every other number is unknown
-unfoldable pub pair_of : ℕ → PairNamed
+unfoldable pub pair_of : ℕ → Option PairKind
 pair_of n = pair_from (least (request_is n) (length pairs))

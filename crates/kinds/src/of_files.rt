@@ -114,13 +114,6 @@ const KINDS: [Kind; 7] = [
     Kind::EC22,
 ];
 
-// What a number says of a kind.
-#[derive(Clone, Copy)]
-pub enum Named {
-    Is(Kind),
-    Unknown,
-}
-
 // A record's role in its file.
 #[derive(Clone, Copy)]
 pub enum Role {
@@ -234,8 +227,7 @@ impl Fixed {
     pub fn of(kind: Kind) -> Self
         ensures { result ≡ fixed_of kind }
     {
-        let form = kind.form;
-        match form {
+        match kind.form {
             Form::EnrolmentRequest => Fixed::enrolment(true, true),
             Form::EnrolmentResult => Fixed::enrolment(false, true),
             Form::DebitRequest => Fixed::debit(true),
@@ -253,48 +245,22 @@ impl Fixed {
 }
 
 // The kind whose four letters the number is.
-pub fn kind_of(name: u64) -> Named
+pub fn kind_of(name: u64) -> Option<Kind>
     ensures { result ≡ kind_of name }
 {
-    let mut i = 0;
-    while i < KINDS.len() {
-        let kind = KINDS[i];
-        if kind.own.name == name {
-            return Named::Is(kind);
-        }
-        i += 1;
-    }
-    Named::Unknown
+    KINDS.iter().copied().find(|kind| kind.own.name == name)
 }
 
 // The same where files of the kind are written.
-pub fn request_of(name: u64) -> Named
+pub fn request_of(name: u64) -> Option<Kind>
     ensures { result ≡ request_of name }
 {
-    let named = kind_of(name);
-    match named {
-        Named::Is(kind) => {
-            if Fixed::of(kind).written {
-                return Named::Is(kind);
-            }
-            Named::Unknown
-        }
-        Named::Unknown => Named::Unknown,
-    }
+    kind_of(name).filter(|kind| Fixed::of(*kind).written)
 }
 
 // The same where files of the kind go into a day file.
-pub fn daily_of(name: u64) -> Named
+pub fn daily_of(name: u64) -> Option<Kind>
     ensures { result ≡ daily_of name }
 {
-    let named = kind_of(name);
-    match named {
-        Named::Is(kind) => {
-            if Fixed::of(kind).daily {
-                return Named::Is(kind);
-            }
-            Named::Unknown
-        }
-        Named::Unknown => Named::Unknown,
-    }
+    kind_of(name).filter(|kind| Fixed::of(*kind).daily)
 }

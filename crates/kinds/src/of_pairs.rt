@@ -40,19 +40,11 @@ impl PairKind {
 
 const PAIRS: [PairKind; 3] = [PairKind::ENROLMENT, PairKind::DEBIT, PairKind::SAME_DAY];
 
-// What a number says of a pair kind.
-#[derive(Clone, Copy)]
-pub enum PairNamed {
-    Is(PairKind),
-    Unknown,
-}
-
 pub fn request_kind(pair: PairKind) -> Kind
     ensures { result ≡ request_kind pair }
 {
-    let family = pair.family;
     let own = pair.request;
-    match family {
+    match pair.family {
         Family::Enrolment => Kind {
             form: Form::EnrolmentRequest,
             own,
@@ -67,9 +59,8 @@ pub fn request_kind(pair: PairKind) -> Kind
 pub fn result_kind(pair: PairKind) -> Kind
     ensures { result ≡ result_kind pair }
 {
-    let family = pair.family;
     let own = pair.result;
-    match family {
+    match pair.family {
         Family::Enrolment => Kind {
             form: Form::EnrolmentResult,
             own,
@@ -82,16 +73,8 @@ pub fn result_kind(pair: PairKind) -> Kind
 }
 
 // The pair kind that is named by its request's kind.
-pub fn pair_of(name: u64) -> PairNamed
+pub fn pair_of(name: u64) -> Option<PairKind>
     ensures { result ≡ pair_of name }
 {
-    let mut i = 0;
-    while i < PAIRS.len() {
-        let pair = PAIRS[i];
-        if pair.request.name == name {
-            return PairNamed::Is(pair);
-        }
-        i += 1;
-    }
-    PairNamed::Unknown
+    PAIRS.iter().copied().find(|pair| pair.request.name == name)
 }

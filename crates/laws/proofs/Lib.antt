@@ -8,4 +8,5 @@ pub mod Stores
 pub mod Every
 pub mod Joins
 pub mod Tabs
+pub mod Positions
 pub mod Answers

@@ -6,14 +6,14 @@ use mathlib.Core.List.{List, [], ◌∷◌}
 use mathlib.Core.Path.{◌≡◌, refl, sym, ◌∙◌, ap}
 use native.Mathlib.Nat.{le_of_suc-le-suc, not-suc-le-zero}
 use native.Mathlib.Omega.{arith}
-use borrow.Author.Tests.{eqb-true, eq-eqb, ne_eqb, not-false}
+use borrow.Author.Tests.{eqb-true, eq-eqb, not-false}
 use lib.Dec.{eqb}
 use lib.ListN.{length, get_or, take, drop, length-drop}
 use lib.Seq.{get_or-take, get_or-drop, ext_get_or, length-take-le, take_all, take-add, drop_at, drop-drop}
 use Rattle.laws.specs.Least.{least, none}
 use Rattle.laws.specs.Part.{part, differ, same}
 use Rattle.laws.proofs.Bools.{and_left, and_right}
-use Rattle.laws.proofs.Leasts.{least_more, none_each, none-if, none_true, none-false}
+use Rattle.laws.proofs.Leasts.{least_more, none_each, none-if}
 
 -- inside a list the default is not read
 pub inside {ℓ} : {A : Type ℓ} (l : List A) (i : ℕ) (d e : A) → i < length l → get_or l i d ≡ get_or l i e
@@ -57,24 +57,10 @@ same_self a = rw (eq-eqb (length a) (length a) refl, none-if (differ a a) (lengt
     place : (k : ℕ) → differ a a k ≡ false
     place k = rw (eq-eqb (get_or a k 0) (get_or a k 0) refl)
 
-pub same_not : (a b : List ℕ) → (length a ≡ length b → ⊥) → same a b ≡ false
-unfolding same
-same_not a b h = rw (ne_eqb (length a) (length b) h)
-
 -- a loop that compares: as long as each other, and no place below i differs so far
-module _ (a b : List ℕ) (long : length a ≡ length b) where
-  pub same_stop : (i : ℕ) → i < length a → least (differ a b) i ≡ i → (get_or a i 0 ≡ get_or b i 0 → ⊥) → same a b ≡ false
-  unfolding same differ
-  same_stop i h e ne =
-      rw (eq-eqb (length a) (length b) long, none-false (differ a b) i (length a) h e (rw (ne_eqb (get_or a i 0) (get_or b i 0) ne)))
-
-  pub same_more : (i : ℕ) → least (differ a b) i ≡ i → get_or a i 0 ≡ get_or b i 0 → least (differ a b) (i + 1) ≡ i + 1
-  unfolding differ
-  same_more i e eq = least_more (differ a b) i e (rw (eq-eqb (get_or a i 0) (get_or b i 0) eq))
-
-  pub same_end : least (differ a b) (length a) ≡ length a → same a b ≡ true
-  unfolding same
-  same_end e = rw (eq-eqb (length a) (length b) long, none_true (differ a b) (length a) e)
+pub same_more : (a b : List ℕ) → length a ≡ length b → (i : ℕ) → least (differ a b) i ≡ i → get_or a i 0 ≡ get_or b i 0 → least (differ a b) (i + 1) ≡ i + 1
+unfolding differ
+same_more a b long i e eq = least_more (differ a b) i e (rw (eq-eqb (get_or a i 0) (get_or b i 0) eq))
 
 -- a part that ends before a cut is a part of what is cut off
 pub part-take : (a b m : ℕ) (s : List ℕ) → a + b ≤ m → m ≤ length s → part a b (take m s) ≡ part a b s

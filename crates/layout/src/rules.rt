@@ -25,33 +25,23 @@ fn owner(item: &[u8], rec: &[u8]) -> bool
 fn institution(item: &[u8]) -> bool
     ensures { result ≡ institution item.now }
 {
-    if characters::each(b'0', b'9', item) {
-        return parts::byte(item, 0) == b'9' && parts::byte(item, 1) == b'9';
-    }
-    false
+    characters::each(b'0', b'9', item)
+        && parts::byte(item, 0) == b'9'
+        && parts::byte(item, 1) == b'9'
 }
 
 fn one_of(a: u8, b: u8, c: u8, item: &[u8]) -> bool
     ensures { result ≡ one_of a b c item.now }
 {
-    let first = parts::byte(item, 0);
-    if first == a {
-        return true;
-    }
-    first == b || first == c
+    [a, b, c].contains(&parts::byte(item, 0))
 }
 
 fn office(item: &[u8]) -> bool
     ensures { result ≡ office item.now }
 {
-    if characters::each(b'0', b'9', item) {
-        return true;
-    }
-    if characters::each(b' ', b' ', item) {
-        return true;
-    }
-    let word = base_ten::word(item);
-    word == items::CHANGE || word == items::CANCEL
+    characters::each(b'0', b'9', item)
+        || characters::each(b' ', b' ', item)
+        || [items::CHANGE, items::CANCEL].contains(&base_ten::word(item))
 }
 
 fn failed(item: &[u8]) -> bool
@@ -63,11 +53,8 @@ fn failed(item: &[u8]) -> bool
 fn partly(item: &[u8]) -> bool
     ensures { result ≡ partly item.now }
 {
-    if parts::byte(item, 0) == b'P' {
-        let code = base_ten::word(parts::rest(item, 1));
-        return codes::table_code(code) || code == BLANK;
-    }
-    false
+    let code = base_ten::word(parts::rest(item, 1));
+    parts::byte(item, 0) == b'P' && (codes::table_code(code) || code == BLANK)
 }
 
 fn enough(least: u64, item: &[u8], rec: &[u8]) -> bool
@@ -85,10 +72,10 @@ pub(crate) fn holds(own: Own, row: Row, rec: &[u8], header: &[u8], number: u64) 
     requires in_bounds_2 { 55 ≤ length header.now }
     ensures { result ≡ holds own rec.now header.now number row }
 {
-    let start = row.1 as usize;
-    let size = row.2 as usize;
+    let Row(_, start, size, class, _) = row;
+    let start = start as usize;
+    let size = size as usize;
     let item = parts::part(rec, start, size);
-    let class = row.3;
     match class {
         Class::Each(low, high) => characters::each(low, high, item),
         Class::CodeText => characters::code_text(item),

@@ -14,14 +14,14 @@ use tables::totals::Quantity;
 fn asks(pair: PairKind) -> Quantity
     ensures { result ≡ asks pair }
 {
-    let family = pair.family;
-    match family {
+    match pair.family {
         Family::Enrolment => Quantity::Records,
         Family::Debit => Quantity::Amounts,
     }
 }
 
 // What request i + 1 asks.
+#[tactic(auto, unfolding(crate::specs::Amounts::asked_at))]
 pub fn asked_at(pair: PairKind, request: &[u8], i: usize) -> u64
     requires { i < data_of (request_kind pair) request.now }
     ensures value { result ≡ asked_at pair request.now i }
@@ -31,23 +31,22 @@ pub fn asked_at(pair: PairKind, request: &[u8], i: usize) -> u64
 }
 
 // What result j + 1 says was not taken; nothing where there is no such result.
+#[tactic(auto, unfolding(crate::specs::Amounts::not_taken_by))]
 pub fn not_taken_by(pair: PairKind, res: &[u8], j: usize) -> u64
     ensures value { result ≡ not_taken_by pair res.now j }
     ensures upper_bound { result < 10 ^ 13 }
 {
     let kind = of_pairs::result_kind(pair);
     if j < listed::data_count(kind, res) {
-        return quantities::worth_at(kind, res, asks(pair), j);
+        quantities::worth_at(kind, res, asks(pair), j)
+    } else {
+        0
     }
-    0
 }
 
 // What was taken: the rest.
 pub fn rest(asked: u64, not_taken: u64) -> u64
     ensures { result ≡ asked - not_taken }
 {
-    if not_taken <= asked {
-        return asked - not_taken;
-    }
-    0
+    asked.saturating_sub(not_taken)
 }

@@ -1,4 +1,6 @@
 // Dates, YYMMDD for 20YY, and YYYYMMDD.
+#![tactic(auto, unfolding(crate::specs::Dates::month_days, crate::specs::Dates::leap_day, crate::specs::Dates::days_of, crate::specs::Dates::has_day, crate::specs::Dates::is_date, crate::specs::Dates::not_later, crate::specs::Dates::is_long_date, text::specs::Characters::digits))]
+
 ghost use Rattle.std.specs.Prelude.{◌≡◌, ◌≤◌, length};
 ghost use Rattle.numbers.specs.Dates.{leap_day, days_of, has_day, is_date, not_later, of2000, is_long_date};
 
@@ -20,10 +22,7 @@ fn days_of(year: u64, month: u64) -> u64
     if leap_day(year, month) {
         return 29;
     }
-    if 12 < month {
-        return 0;
-    }
-    DAYS[month as usize]
+    DAYS.get(month as usize).copied().unwrap_or(0)
 }
 
 fn has_day(year: u64, month: u64, day: u64) -> bool
@@ -36,17 +35,13 @@ fn has_day(year: u64, month: u64, day: u64) -> bool
 pub fn date(s: &[u8]) -> bool
     ensures { result ≡ is_date s.now }
 {
-    if s.len() != 6 {
-        return false;
-    }
-    if characters::each(b'0', b'9', s) {
-        return has_day(
+    s.len() == 6
+        && characters::each(b'0', b'9', s)
+        && has_day(
             base_ten::number(parts::part(s, 0, 2)),
             base_ten::number(parts::part(s, 2, 2)),
             base_ten::number(parts::part(s, 4, 2)),
-        );
-    }
-    false
+        )
 }
 
 // s is a date, not later than the one that t says.
@@ -54,25 +49,12 @@ pub fn not_later(s: &[u8], t: &[u8]) -> bool
     requires { length t.now ≤ 19 }
     ensures { result ≡ not_later s.now t.now }
 {
-    if date(s) {
-        return base_ten::number(s) <= base_ten::number(t);
-    }
-    false
-}
-
-// s begins with "20".
-fn of_2000(s: &[u8]) -> bool
-    ensures { result ≡ of2000 s.now }
-{
-    parts::byte(s, 0) == b'2' && parts::byte(s, 1) == b'0'
+    date(s) && base_ten::number(s) <= base_ten::number(t)
 }
 
 // s is a date YYYYMMDD of the years 2000 to 2099.
 pub fn long_date(s: &[u8]) -> bool
     ensures { result ≡ is_long_date s.now }
 {
-    if of_2000(s) {
-        return date(parts::rest(s, 2));
-    }
-    false
+    s.starts_with(b"20") && date(parts::rest(s, 2))
 }

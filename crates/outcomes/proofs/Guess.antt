@@ -9,7 +9,7 @@ use native.Mathlib.Omega.{arith}
 use lib.ListN.{length, take}
 use Rattle.laws.proofs.Bools.{either}
 use Rattle.answers.specs.declared.told.Answer.{Answer}
-use Rattle.answers.specs.Answers.{accepted, refused, refuses}
+use Rattle.answers.specs.Answers.{accepted, refused, refuses, on_side}
 use Rattle.answers.proofs.Refusals.{refuses-zero, number_of}
 use Rattle.records.specs.Records.{data_of}
 use Rattle.reader.specs.Reading.{read_as}
@@ -19,7 +19,7 @@ use Rattle.kinds.specs.declared.of_pairs.PairKind.{PairKind}
 use Rattle.kinds.specs.Pairs.{request_kind, result_kind}
 use Rattle.reader.proofs.Accepted.{read-zero, meets-zero}
 use Rattle.matching.specs.Amounts.{taken_at, not_taken_at}
-use Rattle.pair.specs.Pairing.{on_side, pair_by, lists_fit, pair_as}
+use Rattle.pair.specs.Pairing.{pair_by, lists_fit, pair_as}
 use Rattle.pair.proofs.Stages.{by_result}
 use Rattle.pair.proofs.Matched.{pair-known}
 use Rattle.pair.proofs.Money.{each-request}

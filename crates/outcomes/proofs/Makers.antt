@@ -20,8 +20,7 @@ use Rattle.records.specs.Quantities.{worth, worth_at}
 use Rattle.kinds.specs.declared.of_files.Own.{Own}
 use Rattle.kinds.specs.declared.of_pairs.PairKind.{PairKind}
 use Rattle.kinds.specs.declared.of_pairs.Family.TheVariants.{Debit}
-use Rattle.kinds.specs.declared.of_pairs.PairNamed.{PairNamed}
-use Rattle.kinds.specs.declared.of_pairs.PairNamed.TheVariants.{Is, Unknown}
+use Rattle.std.specs.Prelude.{Option, Some, None}
 use Rattle.kinds.specs.Pairs.{pair_kind, request_kind, result_kind, pair_of}
 use Rattle.agreement.specs.Marks.{mark_in, code_in}
 use Rattle.agreement.specs.Same.{result_at}
@@ -32,7 +31,7 @@ use Rattle.pair.proofs.Marks.{Coded, debit-mark, result-code}
 use Rattle.pair.proofs.Matched.{pair-known}
 use Rattle.pair.proofs.Money.{debit-centre}
 use Rattle.outcomes.specs.declared.cases.Outcome.{Outcome}
-use Rattle.outcomes.specs.declared.cases.Outcome.TheVariants.{None}
+use Rattle.outcomes.specs.declared.cases.Outcome.TheVariants as cases
 use Rattle.outcomes.specs.Outcomes.{maker_in, failed_by, outcome_at, asks_for, outcome_as, outcome_named, outcome_told}
 use Rattle.outcomes.proofs.Outcome.{answered}
 use Rattle.outcomes.specs.Makers.{code_told, MakerSays, refused_by_centre}
@@ -57,8 +56,8 @@ module _ (p : PairKind) (q r : List ℕ) (i : ℕ) where
       none f = rw f (says _ (sym blank_none) (inr refl))
 
 -- *The maker* of whatever is told: of a refusal too, which has no code and no maker
-none-says : MakerSays None
-none-says = says None (sym blank_none) (inr refl)
+none-says : MakerSays cases.None
+none-says = says cases.None (sym blank_none) (inr refl)
 
 module _ (p : PairKind) (q r : List ℕ) (rec : ℕ) where
   abbrev Says : Type 0
@@ -80,9 +79,9 @@ module _ (p : PairKind) (q r : List ℕ) (rec : ℕ) where
       good : refuses (pair_by p q r true) ≡ false → Says
       good f = ⊎_elim (inside f) (outside f) (either (asks_for (data_of (request_kind p) q) rec))
 
-named-says : (n : PairNamed) (q r : List ℕ) (rec : ℕ) → MakerSays (outcome_named n q r rec).outcome
-named-says (Is p) q r rec = as-says p q r rec
-named-says Unknown q r rec = none-says
+named-says : (n : Option PairKind) (q r : List ℕ) (rec : ℕ) → MakerSays (outcome_named n q r rec).outcome
+named-says (Some p) q r rec = as-says p q r rec
+named-says None q r rec = none-says
 
 pub maker-told : (kind : ℕ) (q r : List ℕ) (rec : ℕ) → MakerSays (outcome_told kind q r rec).outcome
 unfolding outcome_told

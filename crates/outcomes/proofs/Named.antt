@@ -7,19 +7,20 @@ use mathlib.Core.Path.{◌≡◌, ◌∙◌}
 use native.Mathlib.Omega.{arith}
 use Rattle.laws.specs.Sum.{sum}
 use Rattle.laws.proofs.Sums.{sum_same}
-use Rattle.answers.specs.Answers.{refused}
+use Rattle.answers.specs.Answers.{refused, on_side}
 use Rattle.records.specs.Records.{data_of}
 use Rattle.reader.specs.Reading.{read_as}
 use Rattle.kinds.specs.declared.of_pairs.PairKind.{PairKind}
-use Rattle.kinds.specs.declared.of_pairs.PairNamed.TheVariants.{Is, Unknown}
+use Rattle.std.specs.Prelude.{Some, None}
 use Rattle.kinds.specs.declared.of_files.Own.{Own}
 use Rattle.kinds.specs.declared.of_pairs.Family.TheVariants.{Debit}
 use Rattle.kinds.specs.Pairs.{pair_kind, request_in, result_in, request_kind, result_kind, pair_of}
-use Rattle.pair.specs.Pairing.{on_side, pair_by, pair_told, taken_after, not_taken_after}
+use Rattle.pair.specs.Pairing.{pair_by, pair_told, taken_after, not_taken_after}
 use Rattle.pair.specs.Trailers.{trailer_says}
 use Rattle.pair.proofs.Matched.{lent-pair}
 use Rattle.pair.proofs.Named.{pair-named, taken-named, not-taken-named}
-use Rattle.outcomes.specs.declared.cases.Outcome.TheVariants.{None, Whole}
+use Rattle.outcomes.specs.declared.cases.Outcome.TheVariants as cases
+use Rattle.outcomes.specs.declared.cases.Outcome.TheVariants.{Whole}
 use Rattle.outcomes.specs.Outcomes.{told, outcome_at, outcome_as, outcome_told}
 use Rattle.outcomes.specs.Listed.{Listed, Paid}
 use Rattle.outcomes.specs.Makers.{refused_by_centre}
@@ -29,12 +30,12 @@ use Rattle.outcomes.proofs.Guess.{result-refused, whole-only}
 
 module _ (kind : ℕ) (q r : List ℕ) where
   -- a number that names no pair kind
-  pub outcome-unknown : (rec : ℕ) → pair_of kind ≡ Unknown → outcome_told kind q r rec ≡ told (refused 1) None
+  pub outcome-unknown : (rec : ℕ) → pair_of kind ≡ None → outcome_told kind q r rec ≡ told (refused 1) cases.None
   unfolding outcome_told
   outcome-unknown rec e = rw e
 
   -- a number that names one
-  module _ (p : PairKind) (named : pair_of kind ≡ Is p) where
+  module _ (p : PairKind) (named : pair_of kind ≡ Some p) where
     pub outcome-named : (rec : ℕ) → outcome_told kind q r rec ≡ outcome_as p q r rec
     unfolding outcome_told
     outcome-named rec = rw named
@@ -58,7 +59,7 @@ module _ (kind : ℕ) (q r : List ℕ) where
           (outcome-listed p q r rec first last taken notTaken (rw (pair-named kind q r p named taken notTaken) at e) l m)
 
 -- *Item 10* of a debit's result, by what is told of each request
-module _ (kind : ℕ) (a b : Own) (named : pair_of kind ≡ Is (pair_kind Debit a b)) (q r : List ℕ) (taken notTaken : ℕ) where
+module _ (kind : ℕ) (a b : Own) (named : pair_of kind ≡ Some (pair_kind Debit a b)) (q r : List ℕ) (taken notTaken : ℕ) where
   pub centre-named :
       (pair_told kind q r taken notTaken).number ≡ 0 →
       sum (λ i. refused_by_centre (outcome_told kind q r (i + 1)).outcome) (data_of (request_in Debit a) q) ≡ trailer_says (result_in Debit b) 10 r

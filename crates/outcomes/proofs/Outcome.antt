@@ -13,7 +13,6 @@ use Rattle.laws.proofs.Bools.{and_left, and_right, either}
 use Rattle.kinds.specs.declared.of_files.Kind.{Kind}
 use Rattle.tables.specs.Makers.{maker_of, maker_number}
 use Rattle.kinds.specs.Kinds.{limit}
-use Rattle.answers.specs.declared.told.Answer.{Answer}
 use Rattle.answers.specs.Answers.{accepted}
 use Rattle.answers.proofs.Refusals.{refuses-not}
 use Rattle.records.specs.Records.{data_of}
@@ -114,12 +113,12 @@ pub record Asked (p : PairKind) (q r : List ℕ) (rec : ℕ) : Type 0 where
   pub inside : rec - 1 < data_of (request_kind p) q
   pub below : rec - 1 < limit
 
--- from what was worked out on the way: the pair's answer, the request's kind, its number of requests, and whether it is asked for
+-- from what was worked out on the way: the request's kind, its number of requests, and whether it is asked for
 pub asked-for :
-    (p : PairKind) (q r : List ℕ) (rec : ℕ) (a : Answer) (k : Kind) (n : ℕ) (asks : Bool) →
-    a ≡ pair_by p q r true → a.number ≡ 0 → k ≡ request_kind p → n ≡ data_of k q → asks ≡ asks_for n rec → asks ≡ true → Asked p q r rec
-asked-for p q r rec a k n asks told zero kind count is t =
-    let known = pair-known p q r true (rw told at zero) in
+    (p : PairKind) (q r : List ℕ) (rec : ℕ) (k : Kind) (n : ℕ) (asks : Bool) →
+    (pair_by p q r true).number ≡ 0 → k ≡ request_kind p → n ≡ data_of k q → asks ≡ asks_for n rec → asks ≡ true → Asked p q r rec
+asked-for p q r rec k n asks zero kind count is t =
+    let known = pair-known p q r true zero in
     let asked = asks-for-is (data_of (request_kind p) q) rec (rw (← kind, ← count, ← is) t) in
     record {
       requests = known.request.lengths;

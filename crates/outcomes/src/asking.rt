@@ -3,13 +3,14 @@ ghost use Rattle.std.specs.Prelude.{◌≡◌, ◌+◌, ◌≤◌, ◌<◌, leng
 ghost use Rattle.records.specs.Records.{data_of};
 ghost use Rattle.kinds.specs.Pairs.{request_kind, mark_start};
 ghost use Rattle.matching.specs.Matching.{result_for};
-ghost use Rattle.outcomes.specs.Outcomes.{told, failed_by, outcome_at, asks_for, outcome_as, outcome_told};
+ghost use Rattle.outcomes.specs.Outcomes.{told_of, failed_by, outcome_at, asks_for, outcome_as, outcome_told};
 
 use crate::cases::{Outcome, Told};
-use answers::told::Answer;
+use answers::of_two::OfTwo;
+use answers::refusing::Refusal;
 use kinds::of_files::Fixed;
 use kinds::of_pairs;
-use kinds::of_pairs::{PairKind, PairNamed};
+use kinds::of_pairs::PairKind;
 use matching::{amounts, lookup};
 use numbers::base_ten;
 use pair::pairing;
@@ -25,6 +26,7 @@ fn mark_start(pair: PairKind) -> usize
 }
 
 // "P" is a part, else the whole was refused.
+#[tactic(auto, unfolding(crate::specs::Outcomes::failed_by, agreement::specs::Marks::mark_in, agreement::specs::Marks::code_in))]
 fn failed_by(pair: PairKind, rec: &[u8], taken: u64, not_taken: u64) -> Outcome
     requires { 120 ≤ length rec.now }
     ensures { result ≡ failed_by pair rec.now taken not_taken }
@@ -39,6 +41,7 @@ fn failed_by(pair: PairKind, rec: &[u8], taken: u64, not_taken: u64) -> Outcome
 }
 
 // The outcome of request i + 1, whose result, if it has one, is j + 1.
+#[tactic(auto, unfolding(crate::specs::Outcomes::outcome_at, matching::specs::Amounts::taken_at, matching::specs::Amounts::not_taken_at))]
 pub fn outcome_at(pair: PairKind, request: &[u8], res: &[u8], i: usize, j: usize) -> Outcome
     requires i_bound { i < data_of (request_kind pair) request.now }
     requires j_value { j ≡ result_for pair request.now res.now i }
@@ -58,43 +61,34 @@ pub fn outcome_at(pair: PairKind, request: &[u8], res: &[u8], i: usize, j: usize
     Outcome::Whole(asked)
 }
 
-fn told(answer: Answer, outcome: Outcome) -> Told
-    ensures { result ≡ told answer outcome }
-{
-    Told { answer, outcome }
-}
-
 // The record is one of the requests 1 to n.
+#[tactic(auto, unfolding(crate::specs::Outcomes::asks_for))]
 fn asks_for(n: u64, rec: u64) -> bool
     ensures { result ≡ asks_for n rec }
 {
-    1 <= rec && rec <= n
+    (1..=n).contains(&rec)
 }
 
-fn outcome_as(pair: PairKind, request: &[u8], res: &[u8], rec: u64) -> Told
-    ensures { result ≡ outcome_as pair request.now res.now rec }
+fn outcome_as(pair: PairKind, request: &[u8], res: &[u8], rec: u64) -> Result<Outcome, OfTwo>
+    ensures { told_of result ≡ outcome_as pair request.now res.now rec }
 {
-    let answer = pairing::pair_by(pair, request, res, true);
-    if answer.number != 0 {
-        return told(answer, Outcome::None);
-    }
+    pairing::pair_by(pair, request, res, true)?;
     let n = listed::data_count(of_pairs::request_kind(pair), request);
-    if asks_for(n as u64, rec) {
-        let i = (rec - 1) as usize;
-        let results = lookup::results_for(pair, request, res);
-        let outcome = outcome_at(pair, request, res, i, results[i] as usize);
-        return told(Answer::accepted(), outcome);
+    if !asks_for(n as u64, rec) {
+        return Err(OfTwo::Both(Refusal::NoRecord));
     }
-    told(Answer::refused(15), Outcome::None)
+    let i = (rec - 1) as usize;
+    let results = lookup::results_for(pair, request, res);
+    Ok(outcome_at(pair, request, res, i, results[i] as usize))
 }
 
 // What became of one request, by its record number.
+#[tactic(auto, unfolding(crate::specs::Outcomes::outcome_told))]
 pub fn outcome(kind: u64, request: &[u8], res: &[u8], rec: u64) -> Told
     ensures { result ≡ outcome_told kind request.now res.now rec }
 {
-    let named = of_pairs::pair_of(kind);
-    match named {
-        PairNamed::Is(known) => outcome_as(known, request, res, rec),
-        PairNamed::Unknown => told(Answer::refused(1), Outcome::None),
-    }
+    let Some(known) = of_pairs::pair_of(kind) else {
+        return Told::of(Err(OfTwo::Both(Refusal::UnknownKind)));
+    };
+    Told::of(outcome_as(known, request, res, rec))
 }

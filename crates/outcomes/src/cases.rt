@@ -1,8 +1,8 @@
 // What can become of one request.
 ghost use Rattle.std.specs.Prelude.{◌≡◌};
-ghost use Rattle.tables.specs.Makers.{maker_number};
-ghost use Rattle.outcomes.specs.Outcomes.{maker_in, numbers_of};
+ghost use Rattle.outcomes.specs.Outcomes.{maker_in, numbers_of, told_of};
 
+use answers::of_two::OfTwo;
 use answers::told::Answer;
 use tables::makers::Maker;
 
@@ -19,10 +19,23 @@ pub enum Outcome {
     Refused(u64, u64, Maker),
 }
 
+// Kept: document 01 wants an outcome enum inside the answer struct.
 #[derive(Clone, Copy)]
 pub struct Told {
     pub answer: Answer,
     pub outcome: Outcome,
+}
+
+impl Told {
+    // What is told of an outcome, or of why there is none.
+    pub(crate) fn of(found: Result<Outcome, OfTwo>) -> Self
+        ensures { result ≡ told_of found }
+    {
+        Told {
+            answer: Answer::of_two(found),
+            outcome: found.unwrap_or(Outcome::None),
+        }
+    }
 }
 
 // Four spaces: no code.
@@ -33,20 +46,8 @@ pub fn maker_in(outcome: Outcome) -> Maker
     ensures { result ≡ maker_in outcome }
 {
     match outcome {
-        Outcome::None => Maker::None,
-        Outcome::Whole(_) => Maker::None,
-        Outcome::Part(_, _, _, maker) => maker,
-        Outcome::Refused(_, _, maker) => maker,
-    }
-}
-
-fn maker_number(maker: Maker) -> u64
-    ensures { result ≡ maker_number maker }
-{
-    match maker {
-        Maker::None => 0,
-        Maker::Bank => 1,
-        Maker::Centre => 2,
+        Outcome::None | Outcome::Whole(_) => Maker::None,
+        Outcome::Part(_, _, _, maker) | Outcome::Refused(_, _, maker) => maker,
     }
 }
 
@@ -54,7 +55,7 @@ fn maker_number(maker: Maker) -> u64
 pub fn numbers(outcome: Outcome) -> [u64; 5]
     ensures { result ≡ numbers_of outcome }
 {
-    let maker = maker_number(maker_in(outcome));
+    let maker = maker_in(outcome) as u64;
     match outcome {
         Outcome::None => [0, 0, 0, BLANK, maker],
         Outcome::Whole(taken) => [1, taken, 0, BLANK, maker],

@@ -24,22 +24,17 @@ pub fn sums_of(pair: PairKind, request: &[u8], res: &[u8], results: &[u16]) -> S
     requires results_value { results.now ≡ results_for pair request.now res.now }
     ensures { result ≡ sums_of pair request.now res.now }
 {
-    let n = listed::data_count(of_pairs::request_kind(pair), request);
-    let mut asked: u64 = 0;
-    let mut taken: u64 = 0;
-    let mut not_taken: u64 = 0;
-    let mut i = 0;
-    while i < n {
-        let all = amounts::asked_at(pair, request, i);
+    let mut sums = Sums {
+        asked: 0,
+        taken: 0,
+        not_taken: 0,
+    };
+    for i in 0..listed::data_count(of_pairs::request_kind(pair), request) {
+        let asked = amounts::asked_at(pair, request, i);
         let left = amounts::not_taken_by(pair, res, results[i] as usize);
-        asked += all;
-        taken += amounts::rest(all, left);
-        not_taken += left;
-        i += 1;
+        sums.asked += asked;
+        sums.taken += amounts::rest(asked, left);
+        sums.not_taken += left;
     }
-    Sums {
-        asked,
-        taken,
-        not_taken,
-    }
+    sums
 }

@@ -14,9 +14,8 @@ use Rattle.records.specs.Records.{record_of, data_of}
 use Rattle.reader.specs.Reading.{read_as}
 use Rattle.reader.proofs.Exact.{read-exact}
 use Rattle.kinds.specs.declared.of_pairs.PairKind.{PairKind}
-use Rattle.agreement.specs.declared.items.Compared.TheVariants.{Headers}
 use Rattle.kinds.specs.Pairs.{request_kind, result_kind}
-use Rattle.agreement.specs.Items.{compared_of}
+use Rattle.agreement.specs.Items.{Headers, compared_of}
 use Rattle.agreement.specs.Meeting.{headers_tell}
 use Rattle.agreement.specs.Same.{HeadersAgree}
 use Rattle.reader.proofs.Accepted.{read-zero}

@@ -13,7 +13,7 @@ use Rattle.laws.proofs.Tabs.{tab-length, tab-at}
 use Rattle.answers.specs.declared.told.Answer.{Answer}
 use Rattle.records.specs.Records.{data_of}
 use Rattle.kinds.specs.declared.of_pairs.PairKind.{PairKind}
-use Rattle.kinds.specs.declared.of_pairs.PairNamed.TheVariants.{Is}
+use Rattle.std.specs.Prelude.{Some}
 use Rattle.kinds.specs.Pairs.{request_kind, pair_of}
 use Rattle.matching.specs.Amounts.{taken_at, not_taken_at}
 use Rattle.pair.specs.Pairing.{pair_by, pair_as, list_after, lists_fit, pair_told, taken_after, not_taken_after}
@@ -43,7 +43,7 @@ module _ (a : Answer) (f : ℕ → ℕ) (n : ℕ) (l : List ℕ) (good : a.numbe
 
 -- *The lent lists*: what they hold at exit, of any number, any bytes and any lent lists, where the pair is accepted
 pub lists-say :
-    (kind : ℕ) (q r taken notTaken : List ℕ) (p : PairKind) → pair_of kind ≡ Is p →
+    (kind : ℕ) (q r taken notTaken : List ℕ) (p : PairKind) → pair_of kind ≡ Some p →
     (pair_told kind q r (length taken) (length notTaken)).number ≡ 0 →
     ListsSay p q r taken notTaken (taken_after kind q r (length taken) (length notTaken) taken)
     (not_taken_after kind q r (length taken) (length notTaken) notTaken)

@@ -10,8 +10,7 @@ use Rattle.answers.specs.Answers.{accepted, refused}
 use Rattle.records.specs.Records.{data_of}
 use Rattle.reader.specs.Reading.{read_as}
 use Rattle.kinds.specs.declared.of_pairs.PairKind.{PairKind}
-use Rattle.kinds.specs.declared.of_pairs.PairNamed.{PairNamed}
-use Rattle.kinds.specs.declared.of_pairs.PairNamed.TheVariants.{Is, Unknown}
+use Rattle.std.specs.Prelude.{Option, Some, None}
 use Rattle.kinds.specs.Pairs.{request_kind, result_kind, pair_of}
 use Rattle.agreement.specs.Same.{HeadersAgree}
 use Rattle.matching.specs.Amounts.{taken_at, not_taken_at}
@@ -24,12 +23,12 @@ use Rattle.pair.proofs.Exact.{pair-exact}
 
 module _ (kind : ℕ) (q r : List ℕ) where
   -- a number that names no pair kind
-  pub pair-unknown : (taken notTaken : ℕ) → pair_of kind ≡ Unknown → pair_told kind q r taken notTaken ≡ refused 1
+  pub pair-unknown : (taken notTaken : ℕ) → pair_of kind ≡ None → pair_told kind q r taken notTaken ≡ refused 1
   unfolding pair_told
   pair-unknown taken notTaken e = rw e
 
   -- a number that names one
-  module _ (p : PairKind) (named : pair_of kind ≡ Is p) where
+  module _ (p : PairKind) (named : pair_of kind ≡ Some p) where
     pub pair-named : (taken notTaken : ℕ) → pair_told kind q r taken notTaken ≡ pair_as p q r taken notTaken
     unfolding pair_told
     pair-named taken notTaken = rw named
@@ -59,12 +58,12 @@ module _ (kind : ℕ) (q r : List ℕ) where
   -- what is accepted under a number is an accepted pair of the kind that the number names
   pub record Known : Type 0 where
     pub p : PairKind
-    pub named : pair_of kind ≡ Is p
+    pub named : pair_of kind ≡ Some p
     pub pair : (pair_by p q r true).number ≡ 0
 
-  named-known : (taken notTaken : ℕ) (n : PairNamed) → pair_of kind ≡ n → (pair_named n q r taken notTaken).number ≡ 0 → Known
-  named-known taken notTaken (Is p) e z = record { p = p; named = e; pair = lent-pair p q r taken notTaken z }
-  named-known taken notTaken Unknown e z = absurd (omega arith)
+  named-known : (taken notTaken : ℕ) (n : Option PairKind) → pair_of kind ≡ n → (pair_named n q r taken notTaken).number ≡ 0 → Known
+  named-known taken notTaken (Some p) e z = record { p = p; named = e; pair = lent-pair p q r taken notTaken z }
+  named-known taken notTaken None e z = absurd (omega arith)
 
   pub told-known : (taken notTaken : ℕ) → (pair_told kind q r taken notTaken).number ≡ 0 → Known
   unfolding pair_told

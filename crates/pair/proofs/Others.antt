@@ -11,17 +11,17 @@ use Rattle.kinds.specs.declared.of_files.Own.{Own}
 use Rattle.kinds.specs.declared.of_pairs.Family.{Family}
 use Rattle.kinds.specs.declared.of_pairs.Family.TheVariants.{Enrolment, Debit}
 use Rattle.kinds.specs.declared.of_pairs.PairKind.{PairKind}
-use Rattle.kinds.specs.declared.of_pairs.PairNamed.TheVariants.{Is}
+use Rattle.std.specs.Prelude.{Some}
 use Rattle.kinds.specs.Kinds.{EB21, EB22, EC21, EC22}
 use Rattle.kinds.specs.Pairs.{debit_pair, same_day_pair, pairs, request_in, result_in, request_kind, result_kind, pair_from, request_is, pair_of}
 use Rattle.answers.specs.declared.told.Answer.{Answer}
-use Rattle.answers.specs.Answers.{accepted, refused_at}
+use Rattle.answers.specs.Answers.{accepted, refused_at, on_side}
 use Rattle.answers.proofs.Refusals.{number_of}
 use Rattle.reader.specs.Reading.{read_as}
 use Rattle.reader.specs.Meets.{Meets}
 use Rattle.reader.proofs.Exact.{read-exact}
 use Rattle.reader.proofs.OneKind.{other_name_lem}
-use Rattle.pair.specs.Pairing.{on_side, pair_by, pair_as, pair_told}
+use Rattle.pair.specs.Pairing.{pair_by, pair_as, pair_told}
 use Rattle.pair.proofs.Stages.{by-request, by_result}
 
 -- item 4 of a header disagrees
@@ -54,11 +54,11 @@ module _ (p o : PairKind) (family : o.family ≡ p.family) (q r : List ℕ) (fit
       by_result p q r fits (number_of good) (named_other told) ∙ ap (on_side 2) told
 
 -- the two pair kinds of debits, by their numbers
-pub next-day : pair_of 0x45423231 ≡ Is debit_pair
+pub next-day : pair_of 0x45423231 ≡ Some debit_pair
 unfolding pair_of pair_from request_is pairs least further
 next-day = refl
 
-pub same-day : pair_of 0x45433231 ≡ Is same_day_pair
+pub same-day : pair_of 0x45433231 ≡ Some same_day_pair
 unfolding pair_of pair_from request_is pairs least further
 same-day = refl
 

@@ -15,9 +15,8 @@ use Rattle.answers.proofs.Refusals.{then-first, then-second, number_of}
 use Rattle.records.specs.Records.{data_of}
 use Rattle.reader.specs.Meets.{Meets}
 use Rattle.kinds.specs.declared.of_pairs.PairKind.{PairKind}
-use Rattle.agreement.specs.declared.items.Compared.TheVariants.{Records}
 use Rattle.kinds.specs.Pairs.{request_kind, result_kind}
-use Rattle.agreement.specs.Items.{compared_of, items_tell}
+use Rattle.agreement.specs.Items.{Records, compared_of, items_tell}
 use Rattle.agreement.specs.Amounts.{amounts_tell}
 use Rattle.agreement.specs.Meeting.{meets_tell}
 use Rattle.agreement.specs.Same.{request_at, result_at, Agree}

@@ -3,16 +3,14 @@ use Rattle.std.specs.Prelude.{ℕ, ◌+◌, ◌<◌, Bool, true, false, List, �
 use Rattle.kinds.specs.Kinds.{fixed_of}
 use Rattle.tables.specs.Copied.{no_item}
 use Rattle.answers.specs.declared.told.Answer.{Answer}
-use Rattle.answers.specs.Answers.{accepted, refused, refused_at}
+use Rattle.answers.specs.Answers.{accepted, refused, refused_at, on_side}
 use Rattle.records.specs.Records.{record_of, data_of}
 use Rattle.reader.specs.Reading.{read_as}
 use Rattle.kinds.specs.declared.of_pairs.PairKind.{PairKind}
-use Rattle.agreement.specs.declared.items.Compared.TheVariants.{Headers, Records}
 use Rattle.kinds.specs.Pairs.{request_kind, result_kind}
-use Rattle.agreement.specs.Items.{compared_of}
+use Rattle.agreement.specs.Items.{Headers, Records, compared_of}
 use Rattle.agreement.specs.Same.{request_at, result_at, SameItem, SameTo, Agree, HeadersAgree}
 use Rattle.agreement.specs.Possible.{AmountsRefused}
-use Rattle.pair.specs.Pairing.{on_side}
 use Rattle.pair.specs.Assigned.{Matches, Met}
 
 -- why result j + 1 is refused

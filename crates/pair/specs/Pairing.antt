@@ -1,21 +1,15 @@
 -- A request with its result: 1; the request's reading, the result's; 12; 8; then the result records in order.
-use Rattle.std.specs.Prelude.{ℕ, Bool, cond, ◌&&◌, List, ◌++◌, leb, eqb, drop}
+use Rattle.std.specs.Prelude.{ℕ, Bool, cond, ◌&&◌, List, ◌++◌, leb, eqb, drop, Option, Some, None}
 use Rattle.laws.specs.Tabulate.{tabulate}
 use Rattle.answers.specs.declared.told.Answer.{Answer}
-use Rattle.answers.specs.Answers.{accepted, refused, ◌then◌}
+use Rattle.answers.specs.Answers.{accepted, refused, ◌then◌, on_side}
 use Rattle.records.specs.Records.{data_of}
 use Rattle.reader.specs.Reading.{read_as}
 use Rattle.kinds.specs.declared.of_pairs.PairKind.{PairKind}
-use Rattle.kinds.specs.declared.of_pairs.PairNamed.{PairNamed}
-use Rattle.kinds.specs.declared.of_pairs.PairNamed.TheVariants.{Is, Unknown}
 use Rattle.kinds.specs.Pairs.{request_kind, result_kind, pair_of}
 use Rattle.agreement.specs.Meeting.{headers_tell}
 use Rattle.matching.specs.Amounts.{taken_at, not_taken_at}
 use Rattle.pair.specs.Results.{results_tell}
-
--- an answer about one side of the pair
-abbrev pub on_side : ℕ → Answer → Answer
-on_side side a = record { side = side; number = a.number; rec = a.rec; item = a.item; code = a.code }
 
 -- 8: the lent lists are too short
 unfoldable pub room_tells : Bool → Answer
@@ -37,17 +31,17 @@ pair_as p q r taken notTaken = pair_by p q r (lists_fit (data_of (request_kind p
 unfoldable pub list_after : Answer → (ℕ → ℕ) → ℕ → List ℕ → List ℕ
 list_after a f n l = cond (eqb a.number 0) (tabulate f n ++ drop n l) l
 
-abbrev pub pair_named : PairNamed → List ℕ → List ℕ → ℕ → ℕ → Answer
-pair_named (Is p) q r taken notTaken = pair_as p q r taken notTaken
-pair_named Unknown q r taken notTaken = refused 1
+abbrev pub pair_named : Option PairKind → List ℕ → List ℕ → ℕ → ℕ → Answer
+pair_named (Some p) q r taken notTaken = pair_as p q r taken notTaken
+pair_named None q r taken notTaken = refused 1
 
-abbrev pub taken_named : PairNamed → List ℕ → List ℕ → ℕ → ℕ → List ℕ → List ℕ
-taken_named (Is p) q r taken notTaken l = list_after (pair_as p q r taken notTaken) (taken_at p q r) (data_of (request_kind p) q) l
-taken_named Unknown q r taken notTaken l = l
+abbrev pub taken_named : Option PairKind → List ℕ → List ℕ → ℕ → ℕ → List ℕ → List ℕ
+taken_named (Some p) q r taken notTaken l = list_after (pair_as p q r taken notTaken) (taken_at p q r) (data_of (request_kind p) q) l
+taken_named None q r taken notTaken l = l
 
-abbrev pub not_taken_named : PairNamed → List ℕ → List ℕ → ℕ → ℕ → List ℕ → List ℕ
-not_taken_named (Is p) q r taken notTaken l = list_after (pair_as p q r taken notTaken) (not_taken_at p q r) (data_of (request_kind p) q) l
-not_taken_named Unknown q r taken notTaken l = l
+abbrev pub not_taken_named : Option PairKind → List ℕ → List ℕ → ℕ → ℕ → List ℕ → List ℕ
+not_taken_named (Some p) q r taken notTaken l = list_after (pair_as p q r taken notTaken) (not_taken_at p q r) (data_of (request_kind p) q) l
+not_taken_named None q r taken notTaken l = l
 
 -- the answer, and the two lists afterwards, for any number, any bytes and any lent lists
 unfoldable pub pair_told : ℕ → List ℕ → List ℕ → ℕ → ℕ → Answer

@@ -30,11 +30,9 @@ pub(crate) fn fill(
 {
     let n = listed::data_count(of_pairs::request_kind(pair), request);
     let results = lookup::results_for(pair, request, res);
-    let mut i = 0;
-    while i < n {
+    for i in 0..n {
         let left = amounts::not_taken_by(pair, res, results[i] as usize);
         taken[i] = amounts::rest(amounts::asked_at(pair, request, i), left);
         not_taken[i] = left;
-        i += 1;
     }
 }

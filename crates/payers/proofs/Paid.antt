@@ -1,11 +1,14 @@
 -- A payer's requests, from the last one back: a loop along its chain sums them, or marks each of them.
 -- Assumes nothing.
-use Prim.Native.Nat.{ℕ, ◌+◌, ◌-◌, ◌≤◌, ◌<◌, ◌^◌, zero-le}
+use Rattle.std.specs.Prelude.{Option}
+use Rattle.std.specs.Option.{is_some}
+use Prim.Native.Nat.{ℕ, suc, ◌+◌, ◌≤◌, ◌<◌, ◌^◌, zero-le}
 use mathlib.Core.Bool.{Bool, true, false, ◌&&◌}
 use mathlib.Core.List.{List}
 use mathlib.Core.Logic.{⊎_elim}
-use mathlib.Core.Path.{◌≡◌, refl, sym, ◌∙◌, ap}
+use mathlib.Core.Path.{◌≡◌, refl, sym, ◌∙◌}
 use native.Mathlib.Nat.{le_refl, add-zero, eq-or-lt_of_le}
+use native.Mathlib.Numerals.{add-one}
 use native.Mathlib.Omega.{arith}
 use borrow.Author.Tests.{lt-ltb, le-ltb, ltb-true, ltb-false, eqb-true, eqb-false}
 use lib.Dec.{eqb, ltb}
@@ -14,11 +17,11 @@ use lib.Seq.{get_or-set_same, get_or-set_other}
 use Rattle.laws.specs.Sum.{sum}
 use Rattle.laws.proofs.Bools.{either}
 use Rattle.laws.proofs.Parts.{same-equal}
-use Rattle.laws.proofs.Sums.{sum_more, sum_bound}
+use Rattle.laws.proofs.Sums.{sum_bound}
 use Rattle.laws.proofs.Tabs.{tab-same, tab-list}
 use Rattle.keys.specs.Chains.{last}
-use Rattle.keys.specs.Keys.{has_key_in}
-use Rattle.keys.proofs.Chained.{last_within, last-holds, last-above, last_some, sum-last}
+use Rattle.keys.specs.Keys.{has_key_in, from_one}
+use Rattle.keys.proofs.Chained.{last_within, last-holds, last-above, last_some, some-from, sum-last}
 use Rattle.payers.specs.declared.members.Member.{Member}
 use Rattle.payers.specs.Payers.{named, won_from, taken_from, settled, member_after}
 use Rattle.payers.specs.Turns.{mark_with, marks_with}
@@ -42,24 +45,21 @@ module _ (key : ℕ → List ℕ) (payer : List ℕ) where
     names = λ i q. last-holds (has_key_in key payer) m i (sym e ∙ q);
   }
 
-  -- where the loop stands
-  module _ (n at : ℕ) (o : Own key payer n at) (left : 0 < at) where
-    pub own-inside : at - 1 < n
-    own-inside = omega (arith, o.within)
+  -- where the loop stands, at request i + 1
+  module _ (n i : ℕ) (o : Own key payer n (suc i)) where
+    pub own-names : has_key_in key payer i ≡ true
+    own-names = o.names i (sym (add-one i))
 
-    pub own-names : has_key_in key payer (at - 1) ≡ true
-    own-names = o.names (at - 1) (omega arith)
-
-    pub own_key : key (at - 1) ≡ payer
+    pub own_key : key i ≡ payer
     unfolding has_key_in
-    own_key = same-equal (key (at - 1)) payer own-names
+    own_key = same-equal (key i) payer own-names
 
     -- the one before is earlier, and is one of them too
-    pub own-less : (next : ℕ) → next ≡ last (has_key_in key payer) (at - 1) → next < at
-    own-less next e = omega (arith, last_within (has_key_in key payer) (at - 1))
+    pub own-less : (next : ℕ) → next ≡ last (has_key_in key payer) i → next < suc i
+    own-less next e = omega (arith, last_within (has_key_in key payer) i)
 
-    pub own-more : (next : ℕ) → next ≡ last (has_key_in key payer) (at - 1) → Own key payer n next
-    own-more next e = own-last n (at - 1) next (omega (arith, o.within)) e
+    pub own-more : (next : ℕ) → next ≡ last (has_key_in key payer) i → Own key payer n next
+    own-more next e = own-last n i next (omega (arith, o.within)) e
 
   -- the sum: what all requests give is what those from `at` on gave, and the rest
   module _ (won : ℕ → ℕ) where
@@ -78,30 +78,28 @@ module _ (key : ℕ → List ℕ) (payer : List ℕ) where
     unfolding taken_from
     taken_start n at e = omega (arith, won-last n at e)
 
-    module _ (n at so_far : ℕ) (o : Own key payer n at) (left : 0 < at) (inv : taken_from key won n payer ≡ so_far + sum (won_from key won payer) at) where
-      peel : sum (won_from key won payer) at ≡ sum (won_from key won payer) (at - 1) + won (at - 1)
-      peel =
-          let back : at ≡ at - 1 + 1 = omega arith in
-          ap (sum (won_from key won payer)) back ∙
-          (sum_more (won_from key won payer) (at - 1) ∙ rw (won-here (at - 1) (own-names n at o left)))
+    module _ (n i so_far : ℕ) (o : Own key payer n (suc i)) (inv : taken_from key won n payer ≡ so_far + sum (won_from key won payer) (suc i)) where
+      peel : sum (won_from key won payer) (suc i) ≡ sum (won_from key won payer) i + won i
+      unfolding sum
+      peel = rw (won-here i (own-names n i o))
 
       pub taken_more :
-          (next : ℕ) → next ≡ last (has_key_in key payer) (at - 1) →
-          taken_from key won n payer ≡ so_far + won (at - 1) + sum (won_from key won payer) next
-      taken_more next e = omega (arith, inv, peel, won-last (at - 1) next e)
+          (next : ℕ) → next ≡ last (has_key_in key payer) i →
+          taken_from key won n payer ≡ so_far + won i + sum (won_from key won payer) next
+      taken_more next e = omega (arith, inv, peel, won-last i next e)
 
       -- and it stays small
-      small-from : ((i : ℕ) → i < n → won i ≤ 10 ^ 13) → (i : ℕ) → i < n → won_from key won payer i ≤ 10 ^ 13
-      small-from small i h =
-          ⊎_elim (λ t. rw (won-here i t) (small i h)) (λ f. rw (won-off i f) zero-le) (either (has_key_in key payer i))
+      small-from : ((j : ℕ) → j < n → won j ≤ 10 ^ 13) → (j : ℕ) → j < n → won_from key won payer j ≤ 10 ^ 13
+      small-from small j h =
+          ⊎_elim (λ t. rw (won-here j t) (small j h)) (λ f. rw (won-off j f) zero-le) (either (has_key_in key payer j))
 
-      pub taken-small : n ≤ 65535 → ((i : ℕ) → i < n → won i ≤ 10 ^ 13) → so_far + won (at - 1) ≤ 655350000000000000
+      pub taken-small : n ≤ 65535 → ((j : ℕ) → j < n → won j ≤ 10 ^ 13) → so_far + won i ≤ 655350000000000000
       unfolding taken_from
       taken-small few small = omega (arith, inv, peel, sum_bound (won_from key won payer) (10 ^ 13) n (small-from small))
 
-    pub taken-end : (n so_far at : ℕ) → at ≤ 0 → taken_from key won n payer ≡ so_far + sum (won_from key won payer) at → so_far ≡ taken_from key won n payer
+    pub taken-end : (n so_far : ℕ) → taken_from key won n payer ≡ so_far + sum (won_from key won payer) 0 → so_far ≡ taken_from key won n payer
     unfolding sum
-    taken-end n so_far at h inv = let z : at ≡ 0 = omega arith in sym (rw (z, add-zero) at inv)
+    taken-end n so_far inv = sym (rw add-zero at inv)
 
   -- the marks: what all requests are marked with is what those below `at` are, over what is marked so far
   module _ (number : ℕ) where
@@ -136,66 +134,56 @@ module _ (key : ℕ → List ℕ) (payer : List ℕ) where
     marks-start n at marks e = rw e (tab-same _ _ (length marks) (mark-last n marks))
 
     mark-more :
-        (at : ℕ) (marks : List ℕ) → 0 < at → at ≤ length marks → has_key_in key payer (at - 1) ≡ true → (j : ℕ) →
-        mark_with key at payer number marks j ≡ mark_with key (at - 1) payer number (set marks (at - 1) number) j
+        (i : ℕ) (marks : List ℕ) → i < length marks → has_key_in key payer i ≡ true → (j : ℕ) →
+        mark_with key (suc i) payer number marks j ≡ mark_with key i payer number (set marks i number) j
     unfolding mark_with
-    mark-more at marks left h t j = ⊎_elim here there (either (eqb j (at - 1)))
+    mark-more i marks h t j = ⊎_elim here there (either (eqb j i))
       where
         here :
-            eqb j (at - 1) ≡ true →
-            mark_with key at payer number marks j ≡ mark_with key (at - 1) payer number (set marks (at - 1) number) j
+            eqb j i ≡ true →
+            mark_with key (suc i) payer number marks j ≡ mark_with key i payer number (set marks i number) j
         here q =
-            rw (
-              eqb-true j (at - 1) q,
-              lt-ltb (at - 1) at (omega arith),
-              t,
-              le-ltb (at - 1) (at - 1) (le_refl (at - 1)),
-              get_or-set_same marks (at - 1) number 0 (omega arith),
-            )
+            rw (eqb-true j i q, lt-ltb i (suc i) (le_refl (suc i)), t, le-ltb i i (le_refl i), get_or-set_same marks i number 0 h)
 
         other :
-            (j ≡ at - 1 → ⊥) →
-            ltb j at ≡ ltb j (at - 1)
+            (j ≡ i → ⊥) →
+            ltb j (suc i) ≡ ltb j i
         other ne =
             ⊎_elim
-            (λ a. let l : j < at - 1 = ltb-true j _ a in rw (a, lt-ltb j at (omega arith)))
-            (λ b. let g : at - 1 ≤ j = ltb-false j _ b in rw (b, le-ltb j at (⊎_elim (λ e. absurd (ne (sym e))) (λ l. omega arith) (eq-or-lt_of_le g))))
-            (either (ltb j (at - 1)))
+            (λ a. let l : j < i = ltb-true j _ a in rw (a, lt-ltb j (suc i) (omega arith)))
+            (λ b. let g : i ≤ j = ltb-false j _ b in rw (b, le-ltb j (suc i) (⊎_elim (λ e. absurd (ne (sym e))) (λ l. l) (eq-or-lt_of_le g))))
+            (either (ltb j i))
 
         there :
-            eqb j (at - 1) ≡ false →
-            mark_with key at payer number marks j ≡ mark_with key (at - 1) payer number (set marks (at - 1) number) j
+            eqb j i ≡ false →
+            mark_with key (suc i) payer number marks j ≡ mark_with key i payer number (set marks i number) j
         there f =
-            rw (other (eqb-false j (at - 1) f), get_or-set_other marks (at - 1) j number 0 (eqb-false j (at - 1) f))
+            rw (other (eqb-false j i f), get_or-set_other marks i j number 0 (eqb-false j i f))
 
     pub marks-more :
-        (n at next : ℕ) (marks whole : List ℕ) → Own key payer n at → 0 < at → at ≤ length marks → next ≡ last (has_key_in key payer) (at - 1) →
-        whole ≡ marks_with key at payer number marks → whole ≡ marks_with key next payer number (set marks (at - 1) number)
+        (n i next : ℕ) (marks whole : List ℕ) → Own key payer n (suc i) → i < length marks → next ≡ last (has_key_in key payer) i →
+        whole ≡ marks_with key (suc i) payer number marks → whole ≡ marks_with key next payer number (set marks i number)
     unfolding marks_with
-    marks-more n at next marks whole o left h e inv =
-        inv ∙ (one ∙ marks-start (at - 1) next (set marks (at - 1) number) e)
+    marks-more n i next marks whole o h e inv =
+        inv ∙ (one ∙ marks-start i next (set marks i number) e)
       where
-        one : marks_with key at payer number marks ≡ marks_with key (at - 1) payer number (set marks (at - 1) number)
-        one = rw length-set (tab-same _ _ (length marks) (mark-more at marks left h (own-names n at o left)))
+        one : marks_with key (suc i) payer number marks ≡ marks_with key i payer number (set marks i number)
+        one = rw length-set (tab-same _ _ (length marks) (mark-more i marks h (own-names n i o)))
 
-    pub marks-end : (at : ℕ) (marks whole : List ℕ) → at ≤ 0 → whole ≡ marks_with key at payer number marks → marks ≡ whole
+    pub marks-end : (marks whole : List ℕ) → whole ≡ marks_with key 0 payer number marks → marks ≡ whole
     unfolding marks_with mark_with
-    marks-end at marks whole h inv =
-        sym (inv ∙ tab-list _ marks (λ i _. rw (le-ltb i at (omega arith))))
+    marks-end marks whole inv = sym (inv ∙ tab-list _ marks (λ j _. rw (le-ltb j 0 zero-le)))
 
 -- a member that no request names, and one that some do: by the last of them
-module _ (key : ℕ → List ℕ) (won : ℕ → ℕ) (n : ℕ) (m : Member) (at : ℕ) (found : at ≡ last (has_key_in key m.payer) n) where
-  by_last : named key n m.payer ≡ ltb 0 at
+module _ (key : ℕ → List ℕ) (won : ℕ → ℕ) (n : ℕ) (m : Member) (at : Option ℕ) (found : at ≡ from_one (last (has_key_in key m.payer) n)) where
+  by_last : named key n m.payer ≡ is_some at
   unfolding named
-  by_last = rw found (last_some (has_key_in key m.payer) n)
+  by_last = last_some (has_key_in key m.payer) n ∙ rw found (some-from _)
 
-  pub member-other : at ≡ 0 → m ≡ member_after key won n m
+  pub member-other : is_some at ≡ false → m ≡ member_after key won n m
   unfolding member_after
   member-other e = rw (by_last, e)
 
-  pub member-named : (at ≡ 0 → ⊥) → settled m (taken_from key won n m.payer) ≡ member_after key won n m
+  pub member-named : is_some at ≡ true → settled m (taken_from key won n m.payer) ≡ member_after key won n m
   unfolding member_after
-  member-named ne = rw (by_last, some_left)
-    where
-      some_left : ltb 0 at ≡ true
-      some_left = ⊎_elim (λ t. t) (λ f. let l : at ≤ 0 = ltb-false 0 at f in absurd (ne (omega arith))) (either (ltb 0 at))
+  member-named e = rw (by_last, e)

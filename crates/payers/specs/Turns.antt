@@ -1,5 +1,5 @@
--- One turn of a pass over the board: what is asked of the memory that is lent for it, and what comes of each task.
-use Rattle.std.specs.Prelude.{ℕ, ◌+◌, ◌-◌, ◌*◌, ◌≤◌, ◌<◌, ◌^◌, Bool, cond, not, ◌&&◌, List, [], ltb, leb, length, get_or}
+-- One member in a pass over the board: what is asked of the memory that is lent for it, and what comes of it.
+use Rattle.std.specs.Prelude.{ℕ, ◌+◌, ◌-◌, ◌*◌, ◌≤◌, ◌<◌, ◌^◌, Bool, cond, not, ◌&&◌, List, [], ltb, leb, length, get_or, Option, Some, None}
 use Rattle.laws.specs.Tabulate.{tabulate}
 use Rattle.laws.specs.Stored.{stored}
 use Rattle.keys.specs.declared.stands.Spacing.{Spacing}
@@ -8,10 +8,7 @@ use Rattle.keys.specs.Stands.{key_in, Inside}
 use Rattle.keys.specs.Chains.{slots, last, Chained, links_with, no_links}
 use Rattle.tables.specs.Places.{payer_place}
 use Rattle.payers.specs.declared.members.Member.{Member}
-use Rattle.payers.specs.declared.turns.Task.{Task}
-use Rattle.payers.specs.declared.turns.Task.TheVariants.{Rest, Seek, Mark, Settle}
 use Rattle.payers.specs.declared.turns.Place.{Place}
-use Rattle.payers.specs.declared.turns.Turned.{Turned}
 use Rattle.payers.specs.Payers.{taken_from, member_after, over_number}
 
 -- how many payers are held at a time
@@ -37,12 +34,9 @@ listed taken i = get_or taken i 0
 abbrev pub placed : ℕ → ℕ → ℕ → Place
 placed from at end = record { from = from; at = at; end = end }
 
--- the place that a pass begins at: nothing is looked at where there is nothing to do
-abbrev pub start_of : Task → ℕ → Place
-start_of Rest many = placed 0 0 0
-start_of Seek many = placed 0 0 many
-start_of (Mark n) many = placed 0 0 many
-start_of (Settle n) many = placed 0 0 many
+-- the number of member k of so many, counted from 1; none where there are no more than k
+unfoldable pub member_in : ℕ → ℕ → Option ℕ
+member_in many k = cond (ltb k many) (Some (k + 1)) None
 
 -- Seek: members `from` on are held, as many as there is room for, and members up to `end` are compared with them
 
@@ -108,38 +102,3 @@ marked n m request taken marks =
 
 unfoldable pub settled_by : ℕ → Member → List ℕ → List ℕ → Member
 settled_by n m request taken = member_after (dues_key request) (listed taken) n m
-
--- what a turn asks
-abbrev pub Asks : Task → Place → Member → List ℕ → List ℕ → List ℕ → List ℕ → Type 0
-Asks Rest p m request taken links room = Unit {0}
-Asks Seek p m request taken links room = SeekAsks p links room
-Asks (Mark n) p m request taken links room = DuesAsks n request taken links × ((n ≤ length room) × (p.at < p.end))
-Asks (Settle n) p m request taken links room = DuesAsks n request taken links × (p.at < p.end)
-
--- and what comes of it: the next place, the member, the links and the room
-abbrev pub place_after : Task → Place → Member → List ℕ → Place
-place_after Rest p m room = p
-place_after Seek p m room = sought_place p m.payer room
-place_after (Mark n) p m room = placed p.from (p.at + 1) p.end
-place_after (Settle n) p m room = placed p.from (p.at + 1) p.end
-
-abbrev pub turned_member : Task → Member → List ℕ → List ℕ → Member
-turned_member Rest m request taken = m
-turned_member Seek m request taken = m
-turned_member (Mark n) m request taken = m
-turned_member (Settle n) m request taken = settled_by n m request taken
-
-abbrev pub links_after : Task → Place → Member → List ℕ → List ℕ → List ℕ
-links_after Rest p m links room = links
-links_after Seek p m links room = sought_links p m.payer links room
-links_after (Mark n) p m links room = links
-links_after (Settle n) p m links room = links
-
-abbrev pub room_after : Task → Place → Member → List ℕ → List ℕ → List ℕ → List ℕ
-room_after Rest p m request taken room = room
-room_after Seek p m request taken room = sought_room p m.payer room
-room_after (Mark n) p m request taken room = marked n m request taken room
-room_after (Settle n) p m request taken room = room
-
-abbrev pub turned_to : Place → Member → Turned
-turned_to p m = record { place = p; member = m }

@@ -1,12 +1,11 @@
 // What was taken of a member by its requests, which are found along the chain of its payer.
-ghost use Rattle.std.specs.Prelude.{[], ◌≡◌, ◌≤◌, length};
-ghost use Rattle.keys.specs.Chains.{Chained};
-ghost use Rattle.keys.specs.Stands.{Inside};
-ghost use Rattle.payers.specs.Payers.{taken_from, state_of, over_number};
-ghost use Rattle.payers.specs.Turns.{payer_spacing, dues_key, listed, marks_with, marked, settled_by, DuesAsks};
+ghost use Rattle.std.specs.Prelude.{◌≡◌};
+ghost use Rattle.payers.specs.Payers.{state_of, over_number};
+ghost use Rattle.payers.specs.Turns.{DuesAsks};
 
 use crate::members::Member;
-use keys::chains;
+use keys::keyed::Keys;
+use keys::linked::Linked;
 use keys::stands::Spacing;
 use matching::amounts;
 
@@ -17,100 +16,101 @@ pub const PAYERS: Spacing = Spacing {
     size: 20,
 };
 
-// What was taken of all the payer's requests: from the last one back, so that only its chain is looked at.
-fn owing(payer: &[u8], n: usize, request: &[u8], taken: &[u64], links: &[u16]) -> u64
-    requires { DuesAsks n request.now taken.now links.now }
-    ensures { result ≡ taken_from (dues_key request.now) (listed taken.now) n payer.now }
-{
-    let mut won: u64 = 0;
-    let mut at = chains::last(request, PAYERS, n, links, payer);
-    while 0 < at {
-        let i = at - 1;
-        won += taken[i];
-        at = chains::before(request, PAYERS, n, links, payer, i);
+// n debit requests, chained by their payers, and what was taken of each.
+#[derive(Clone, Copy)]
+pub struct Requests<'a> {
+    pub n: usize,
+    pub request: &'a [u8],
+    pub taken: &'a [u64],
+    pub links: &'a [u16],
+    pub ghost asks: { DuesAsks n request.now taken.now links.now },
+}
+
+impl<'a> Requests<'a> {
+    ghost use Rattle.std.specs.Prelude.{◌≡◌, ◌≤◌, length};
+    ghost use Rattle.keys.specs.Keyed.{key_of};
+    ghost use Rattle.payers.specs.Payers.{taken_from};
+    ghost use Rattle.payers.specs.Turns.{dues_key, listed, marks_with, marked, settled_by};
+
+    // They by their payers.
+    fn linked(&self) -> Linked<'a>
+        ensures keys_value { key_of result.keys ≡ dues_key self.now.request.now }
+        ensures n_value { result.keys.n ≡ self.now.n }
+        ensures links_value { result.links.now ≡ self.now.links.now }
+    {
+        Linked {
+            keys: Keys {
+                s: self.request,
+                places: &[],
+                spacing: PAYERS,
+                n: self.n,
+            },
+            links: self.links,
+        }
     }
-    won
+
+    // What was taken of all the payer's requests: from the last one back, so that only its chain is looked at.
+    fn owing(&self, payer: &[u8]) -> u64
+        ensures { result ≡ taken_from (dues_key self.now.request.now) (listed self.now.taken.now) self.now.n payer.now }
+    {
+        let requests = self.linked();
+        let mut won: u64 = 0;
+        let mut at = requests.last(payer);
+        while let Some(i) = at {
+            won += self.taken[i];
+            at = requests.before(i);
+        }
+        won
+    }
+
+    // Each of the payer's requests is marked with a number.
+    fn mark_with(&self, number: u8, payer: &[u8], marks: &mut [u8])
+        requires { self.now.n ≤ length marks.old }
+        ensures { marks.new ≡ marks_with (dues_key self.now.request.now) self.now.n payer.now number marks.old }
+    {
+        let requests = self.linked();
+        let mut at = requests.last(payer);
+        while let Some(i) = at {
+            marks[i] = number;
+            at = requests.before(i);
+        }
+    }
+
+    // Each of the member's requests is marked with what is told of it, by the sum of all of them.
+    pub fn mark(&self, member: Member, marks: &mut [u8])
+        requires { self.now.n ≤ length marks.old }
+        ensures { marks.new ≡ marked self.now.n member self.now.request.now self.now.taken.now marks.old }
+    {
+        let number = over_number(self.owing(&member.payer), member.owed);
+        self.mark_with(number, &member.payer, marks);
+    }
+
+    // The member after the posting: as it was where no request names it.
+    pub fn settle(&self, member: Member) -> Member
+        ensures { result ≡ settled_by self.now.n member self.now.request.now self.now.taken.now }
+    {
+        if self.linked().last(&member.payer).is_none() {
+            return member;
+        }
+        let owed = amounts::rest(member.owed, self.owing(&member.payer));
+        Member {
+            owed,
+            state: state_of(owed),
+            ..member
+        }
+    }
 }
 
 // 42, more was taken of a payer than it owes, or 0.
 fn over_number(won: u64, owed: u64) -> u8
     ensures { result ≡ over_number won owed }
 {
-    if won <= owed {
-        return 0;
-    }
-    42
-}
-
-// Each of the payer's requests is marked with a number.
-fn mark_with(number: u8, payer: &[u8], n: usize, request: &[u8], links: &[u16], marks: &mut [u8])
-    requires inside { Inside [] payer_spacing request.now n }
-    requires chained { Chained (dues_key request.now) n links.now }
-    requires n_in_bounds { n ≤ length marks.old }
-    ensures { marks.new ≡ marks_with (dues_key request.now) n payer.now number marks.old }
-{
-    let mut at = chains::last(request, PAYERS, n, links, payer);
-    while 0 < at {
-        let i = at - 1;
-        marks[i] = number;
-        at = chains::before(request, PAYERS, n, links, payer, i);
-    }
-}
-
-// Each of the member's requests is marked with what is told of it, by the sum of all of them.
-pub(crate) fn mark(
-    n: usize,
-    member: Member,
-    request: &[u8],
-    taken: &[u64],
-    links: &[u16],
-    marks: &mut [u8],
-)
-    requires dues_asks { DuesAsks n request.now taken.now links.now }
-    requires n_in_bounds { n ≤ length marks.old }
-    ensures { marks.new ≡ marked n member request.now taken.now marks.old }
-{
-    let payer = member.payer;
-    let won = owing(&payer, n, request, taken, links);
-    mark_with(
-        over_number(won, member.owed),
-        &payer,
-        n,
-        request,
-        links,
-        marks,
-    );
+    if won <= owed { 0 } else { 42 }
 }
 
 // Running, 1, where nothing is owed; else paused, 0.
 fn state_of(owed: u64) -> u64
     ensures { result ≡ state_of owed }
 {
-    if owed == 0 {
-        return 1;
-    }
-    0
-}
-
-// The member after the posting: as it was where no request names it.
-pub(crate) fn settle(
-    n: usize,
-    member: Member,
-    request: &[u8],
-    taken: &[u64],
-    links: &[u16],
-) -> Member
-    requires { DuesAsks n request.now taken.now links.now }
-    ensures { result ≡ settled_by n member request.now taken.now }
-{
-    let payer = member.payer;
-    if chains::last(request, PAYERS, n, links, &payer) == 0 {
-        return member;
-    }
-    let owed = amounts::rest(member.owed, owing(&payer, n, request, taken, links));
-    Member {
-        payer: payer,
-        owed: owed,
-        state: state_of(owed),
-    }
+    u64::from(owed == 0)
 }

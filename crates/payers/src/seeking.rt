@@ -6,6 +6,8 @@ ghost use Rattle.payers.specs.Turns.{held, placed, held_in, seen, goes_on, next_
 
 use crate::turns::Place;
 use keys::chains;
+use keys::keyed::Keys;
+use keys::linked::Linked;
 use keys::stands::Spacing;
 use text::parts;
 
@@ -24,19 +26,24 @@ fn held_in(place: Place) -> usize
     requires { place.from ≤ place.at }
     ensures { result ≡ held_in place }
 {
-    let past = place.at - place.from;
-    if HELD <= past {
-        return HELD;
-    }
-    past
+    HELD.min(place.at - place.from)
 }
 
 // The payer is one of those that are held.
-fn seen(place: Place, payer: &[u8], links: &[u16], room: &[u8]) -> bool
+fn seen<'a>(place: Place, payer: &[u8], links: &'a [u16], room: &'a [u8]) -> bool
     requires { SeekAsks place links.now room.now }
     ensures { result ≡ seen place payer.now room.now }
 {
-    0 < chains::last(room, PAYERS, held_in(place), links, payer)
+    let payers = Linked {
+        keys: Keys {
+            s: room,
+            places: &[],
+            spacing: PAYERS,
+            n: held_in(place),
+        },
+        links,
+    };
+    payers.last(payer).is_some()
 }
 
 // The payer is held behind the i that are.
@@ -60,10 +67,7 @@ fn hold_new(place: Place, found: bool, payer: &[u8], links: &mut [u16], room: &m
     ensures links_after { links.new ≡ joined_links place payer.now links.old room.old }
     ensures room_after { room.new ≡ sought_room place payer.now room.old }
 {
-    if found {
-        return;
-    }
-    if place.at - place.from < HELD {
+    if !found && place.at - place.from < HELD {
         hold(held_in(place), payer, links, room);
     }
 }
@@ -75,15 +79,13 @@ fn moved_on(place: Place, found: bool) -> Place
 {
     if found {
         return Place {
-            from: place.from,
-            at: place.at,
             end: place.at,
+            ..place
         };
     }
     Place {
-        from: place.from,
         at: place.at + 1,
-        end: place.end,
+        ..place
     }
 }
 
@@ -92,10 +94,7 @@ fn goes_on(place: Place) -> bool
     requires { place.from ≤ place.end }
     ensures { result ≡ goes_on place }
 {
-    if place.at < place.end {
-        return false;
-    }
-    HELD < place.end - place.from
+    place.end <= place.at && HELD < place.end - place.from
 }
 
 // At the end the next members are held, if there are more.
@@ -108,20 +107,21 @@ fn next_in(place: Place, links: &mut [u16]) -> Place
         chains::clear(links);
         let from = place.from + HELD;
         return Place {
-            from: from,
+            from,
             at: from,
-            end: place.end,
+            ..place
         };
     }
     place
 }
 
-// One member's turn in the search.
-pub(crate) fn seek(place: Place, payer: [u8; 20], links: &mut [u16], room: &mut [u8]) -> Place
+// One member's turn in the search. That a payer has twenty bytes is told to the caller too, since its proof needs it.
+pub fn seek(place: Place, payer: [u8; 20], links: &mut [u16], room: &mut [u8]) -> Place
     requires { SeekAsks place links.old room.old }
     ensures value { result ≡ sought_place place payer room.old }
     ensures links_after { links.new ≡ sought_links place payer links.old room.old }
     ensures room_after { room.new ≡ sought_room place payer room.old }
+    ensures payer_len { length payer ≡ 20 }
 {
     let found = seen(place, &payer, links, room);
     hold_new(place, found, &payer, links, room);

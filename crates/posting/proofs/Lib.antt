@@ -1,5 +1,5 @@
 -- Laws about the definitions of specs/.
 pub mod Widths
-pub mod Following
+pub mod Texts
 pub mod Posted
 pub mod Bounds

@@ -3,10 +3,10 @@ use Rattle.std.specs.Prelude.{ℕ, ◌+◌, ◌-◌, ◌*◌, ◌/◌, true, con
 use Rattle.laws.specs.Joined.{joined}
 use Rattle.kinds.specs.Kinds.{EB21, fixed_of}
 use Rattle.answers.specs.declared.told.Answer.{Answer}
-use Rattle.answers.specs.Answers.{refused, refuses, ◌then◌, accepted}
+use Rattle.answers.specs.Answers.{refused, refuses, ◌then◌, accepted, on_side}
 use Rattle.records.specs.Records.{data_of}
 use Rattle.kinds.specs.Pairs.{debit_pair}
-use Rattle.pair.specs.Pairing.{on_side, pair_by}
+use Rattle.pair.specs.Pairing.{pair_by}
 use Rattle.outcomes.specs.Outcomes.{outcome_at}
 use Rattle.outcomes.specs.Sums.{sums_of}
 use Rattle.posting.specs.Lines.{refusal_line, accepted_line, request_line, line_most}

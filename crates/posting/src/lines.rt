@@ -1,9 +1,9 @@
-// The lines of the posting program, each put at a place of a lent buffer.
-ghost use Rattle.std.specs.Prelude.{◌≡◌, ◌+◌, ◌≤◌, length};
+// The lines of the posting program, each put behind a text.
+ghost use Rattle.std.specs.Prelude.{◌≡◌, ◌+◌, ◌≤◌, ◌++◌, length};
 ghost use Rattle.posting.specs.Lines.{word_for, maker_end, refusal_line, accepted_line, request_line, line_most};
-ghost use Rattle.laws.specs.Stored.{stored};
+ghost use Rattle.posting.specs.Posting.{longest};
 
-use crate::puts;
+use crate::puts::Text;
 use answers::told::Answer;
 use outcomes::cases;
 use outcomes::cases::Outcome;
@@ -14,75 +14,67 @@ use tables::makers::Maker;
 pub(crate) const LINE: usize = 84;
 
 // refused SIDE NUMBER RECORD ITEM CODE
-pub(crate) fn put_refusal(text: &mut [u8], at: usize, answer: Answer) -> usize
-    requires { at + 100 ≤ length text.old }
-    ensures value { result ≡ at + length (refusal_line answer) }
-    ensures text_after { text.new ≡ stored at (refusal_line answer) text.old }
-    ensures upper_bound { result ≤ at + 100 }
+pub(crate) fn put_refusal(text: &mut Text, answer: Answer)
+    requires { length text.old + 100 ≤ longest }
+    ensures { text.new ≡ text.old ++ refusal_line answer }
 {
-    let side = puts::put_bytes(text, at, b"refused ");
-    let number = puts::put_number(text, side, answer.side, b' ');
-    let rec = puts::put_number(text, number, answer.number, b' ');
-    let item = puts::put_number(text, rec, answer.rec, b' ');
-    let code = puts::put_number(text, item, answer.item, b' ');
-    puts::put_code(text, code, answer.code, b'\n')
+    text.put(b"refused ");
+    text.put_number(answer.side, b' ');
+    text.put_number(answer.number, b' ');
+    text.put_number(answer.rec, b' ');
+    text.put_number(answer.item, b' ');
+    text.put_code(answer.code, b'\n');
 }
 
 // accepted REQUESTS ASKED TAKEN NOT-TAKEN
-pub(crate) fn put_accepted(text: &mut [u8], at: usize, n: u64, sums: Sums) -> usize
-    requires { at + 100 ≤ length text.old }
-    ensures value { result ≡ at + length (accepted_line n sums) }
-    ensures text_after { text.new ≡ stored at (accepted_line n sums) text.old }
-    ensures upper_bound { result ≤ at + 100 }
+pub(crate) fn put_accepted(text: &mut Text, n: u64, sums: Sums)
+    requires { length text.old + 100 ≤ longest }
+    ensures text { text.new ≡ text.old ++ accepted_line n sums }
+    ensures upper_bound { length text.new ≤ length text.old + 100 }
 {
-    let requests = puts::put_bytes(text, at, b"accepted ");
-    let asked = puts::put_number(text, requests, n, b' ');
-    let taken = puts::put_number(text, asked, sums.asked, b' ');
-    let not_taken = puts::put_number(text, taken, sums.taken, b' ');
-    puts::put_number(text, not_taken, sums.not_taken, b'\n')
+    text.put(b"accepted ");
+    text.put_number(n, b' ');
+    text.put_number(sums.asked, b' ');
+    text.put_number(sums.taken, b' ');
+    text.put_number(sums.not_taken, b'\n');
 }
 
 // The word of an outcome; no request has none.
-fn put_word(text: &mut [u8], at: usize, outcome: Outcome) -> usize
-    requires { at + 8 ≤ length text.old }
-    ensures value { result ≡ at + length (word_for outcome) }
-    ensures text_after { text.new ≡ stored at (word_for outcome) text.old }
-    ensures upper_bound { result ≤ at + 8 }
+fn word(outcome: Outcome) -> &'static [u8]
+    ensures value { result.now ≡ word_for outcome }
+    ensures upper_bound { length result.now ≤ 8 }
 {
     match outcome {
-        Outcome::None => at,
-        Outcome::Whole(_) => puts::put_bytes(text, at, b"whole "),
-        Outcome::Part(_, _, _, _) => puts::put_bytes(text, at, b"part "),
-        Outcome::Refused(_, _, _) => puts::put_bytes(text, at, b"refused "),
+        Outcome::None => b"",
+        Outcome::Whole(_) => b"whole ",
+        Outcome::Part(_, _, _, _) => b"part ",
+        Outcome::Refused(_, _, _) => b"refused ",
     }
 }
 
 // The last word of a request's line.
-fn put_maker(text: &mut [u8], at: usize, maker: Maker) -> usize
-    requires { at + 7 ≤ length text.old }
-    ensures value { result ≡ at + length (maker_end maker) }
-    ensures text_after { text.new ≡ stored at (maker_end maker) text.old }
-    ensures upper_bound { result ≤ at + 7 }
+fn last_word(maker: Maker) -> &'static [u8]
+    ensures value { result.now ≡ maker_end maker }
+    ensures upper_bound { length result.now ≤ 7 }
 {
     match maker {
-        Maker::None => puts::put_bytes(text, at, b"----\n"),
-        Maker::Bank => puts::put_bytes(text, at, b"bank\n"),
-        Maker::Centre => puts::put_bytes(text, at, b"centre\n"),
+        Maker::None => b"----\n",
+        Maker::Bank => b"bank\n",
+        Maker::Centre => b"centre\n",
     }
 }
 
 // NUMBER OUTCOME TAKEN NOT-TAKEN CODE MAKER
-pub(crate) fn put_request(text: &mut [u8], at: usize, number: u64, outcome: Outcome) -> usize
-    requires { at + line_most ≤ length text.old }
-    ensures value { result ≡ at + length (request_line number outcome) }
-    ensures text_after { text.new ≡ stored at (request_line number outcome) text.old }
-    ensures upper_bound { result ≤ at + line_most }
+pub(crate) fn put_request(text: &mut Text, number: u64, outcome: Outcome)
+    requires { length text.old + line_most ≤ longest }
+    ensures text { text.new ≡ text.old ++ request_line number outcome }
+    ensures upper_bound { length text.new ≤ length text.old + line_most }
 {
-    let numbers = cases::numbers(outcome);
-    let word = puts::put_number(text, at, number, b' ');
-    let taken = put_word(text, word, outcome);
-    let not_taken = puts::put_number(text, taken, numbers[1], b' ');
-    let code = puts::put_number(text, not_taken, numbers[2], b' ');
-    let maker = puts::put_code(text, code, numbers[3], b' ');
-    put_maker(text, maker, cases::maker_in(outcome))
+    let [_, taken, not_taken, code, _] = cases::numbers(outcome);
+    text.put_number(number, b' ');
+    text.put(word(outcome));
+    text.put_number(taken, b' ');
+    text.put_number(not_taken, b' ');
+    text.put_code(code, b' ');
+    text.put(last_word(cases::maker_in(outcome)));
 }

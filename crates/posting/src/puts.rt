@@ -1,19 +1,72 @@
-// Text put at a place of a lent buffer; each answers the place after it.
-ghost use Rattle.std.specs.Prelude.{◌≡◌, ◌+◌, ◌≤◌, length};
+// A text that is put together, one piece behind the other.
+ghost use Rattle.std.specs.Prelude.{◌≡◌, ◌+◌, ◌≤◌, List, [], ◌++◌, ℕ, length, take};
 ghost use Rattle.posting.specs.Decimal.{width_of};
 ghost use Rattle.posting.specs.Lines.{number_then, code_then};
-ghost use Rattle.laws.specs.Stored.{stored};
+ghost use Rattle.posting.specs.Posting.{longest};
 
+use crate::posting::LONGEST;
 use numbers::base_ten;
+use std::marker::Model;
 use text::parts;
 
-pub(crate) fn put_bytes(text: &mut [u8], at: usize, s: &[u8]) -> usize
-    requires { at + length s.now ≤ length text.old }
-    ensures value { result ≡ at + length s.now }
-    ensures text_after { text.new ≡ stored at s.now text.old }
-{
-    parts::put(text, at, s);
-    at + s.len()
+// The first `size` bytes are the text so far.
+#[derive(Drop)]
+pub(crate) struct Text {
+    bytes: [u8; LONGEST],
+    size: usize,
+}
+
+impl Model for Text {
+    ghost Value = { List ℕ };
+
+    ghost view = { λ t. take t.size t.bytes };
+
+    ghost invariant = { λ t. t.size ≤ longest };
+}
+
+impl Text {
+    pub(crate) fn new() -> Self
+        ensures { result ≡ [] }
+    {
+        Text {
+            bytes: [0; LONGEST],
+            size: 0,
+        }
+    }
+
+    pub(crate) fn as_bytes(&self) -> &[u8]
+        ensures { result.now ≡ self.now }
+    {
+        &self.bytes[..self.size]
+    }
+
+    pub(crate) fn put(&mut self, s: &[u8])
+        requires { length self.old + length s.now ≤ longest }
+        ensures { self.new ≡ self.old ++ s.now }
+    {
+        parts::put(&mut self.bytes, self.size, s);
+        self.size += s.len();
+    }
+
+    // A number and what follows it.
+    pub(crate) fn put_number(&mut self, n: u64, end: u8)
+        requires { length self.old + 21 ≤ longest }
+        ensures text { self.new ≡ self.old ++ number_then n end }
+        ensures upper_bound { length self.new ≤ length self.old + 21 }
+    {
+        let w = width(n);
+        base_ten::put_digits(&mut self.bytes, self.size, w, n);
+        self.size += w;
+        self.put(&[end]);
+    }
+
+    pub(crate) fn put_code(&mut self, code: u64, end: u8)
+        requires { length self.old + 5 ≤ longest }
+        ensures text { self.new ≡ self.old ++ code_then code end }
+        ensures upper_bound { length self.new ≤ length self.old + 5 }
+    {
+        self.put(&code_then(code, end));
+    }
 }
 
 // How many digits n has.
@@ -21,33 +74,10 @@ fn width(n: u64) -> usize
     ensures value { result ≡ width_of n }
     ensures upper_bound { result ≤ 20 }
 {
-    let mut rest = n;
-    let mut w = 0;
-    while w < 19 {
-        if rest < 10 {
-            return w + 1;
-        }
-        rest = rest / 10;
-        w += 1;
+    match n.checked_ilog10() {
+        Some(tens) => tens as usize + 1,
+        None => 1,
     }
-    20
-}
-
-// A number and what follows it.
-pub(crate) fn put_number(text: &mut [u8], at: usize, n: u64, end: u8) -> usize
-    requires { at + 21 ≤ length text.old }
-    ensures value { result ≡ at + length (number_then n end) }
-    ensures text_after { text.new ≡ stored at (number_then n end) text.old }
-    ensures upper_bound { result ≤ at + 21 }
-{
-    let w = width(n);
-    let mut i = 0;
-    while i < w {
-        text[at + i] = base_ten::digit_at(n, w, i);
-        i += 1;
-    }
-    text[at + w] = end;
-    at + w + 1
 }
 
 // A code's four letters and what follows it; a blank code is ----.
@@ -64,14 +94,4 @@ fn code_then(code: u64, end: u8) -> [u8; 5]
         base_ten::letter(code, 3),
         end,
     ]
-}
-
-pub(crate) fn put_code(text: &mut [u8], at: usize, code: u64, end: u8) -> usize
-    requires { at + 5 ≤ length text.old }
-    ensures value { result ≡ at + length (code_then code end) }
-    ensures text_after { text.new ≡ stored at (code_then code end) text.old }
-    ensures upper_bound { result ≤ at + 5 }
-{
-    let bytes = code_then(code, end);
-    put_bytes(text, at, &bytes)
 }

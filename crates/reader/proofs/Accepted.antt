@@ -14,8 +14,7 @@ use Rattle.text.specs.Characters.{digits}
 use Rattle.numbers.specs.Numbers.{value_of, says}
 use Rattle.kinds.specs.declared.of_files.Kind.{Kind}
 use Rattle.kinds.specs.declared.of_files.Role.TheVariants.{Header, Data, Trailer}
-use Rattle.kinds.specs.declared.of_files.Named.{Named}
-use Rattle.kinds.specs.declared.of_files.Named.TheVariants.{Is, Unknown}
+use Rattle.std.specs.Prelude.{Option, Some, None}
 use Rattle.kinds.specs.Kinds.{kind_of}
 use Rattle.tables.specs.Rows.{blank}
 use Rattle.tables.specs.Tables.{rows_of}
@@ -54,19 +53,19 @@ total-value k s m j h = says-value _ (quantity_of k s (get_or (totals_of k) j no
 -- a file that is accepted under a number is one of the kind that the number names
 pub record Known (kind : ℕ) (s : List ℕ) : Type 0 where
   pub k : Kind
-  pub named : kind_of kind ≡ Is k
+  pub named : kind_of kind ≡ Some k
   pub meets : Meets k s
 
-named-known : (kind : ℕ) (s : List ℕ) (n : Named) → kind_of kind ≡ n → (read_named n s).number ≡ 0 → Known kind s
-named-known kind s (Is k) e z = record { k = k; named = e; meets = accepted-meets k s z }
-named-known kind s Unknown e z = absurd (omega arith)
+named-known : (kind : ℕ) (s : List ℕ) (n : Option Kind) → kind_of kind ≡ n → (read_named n s).number ≡ 0 → Known kind s
+named-known kind s (Some k) e z = record { k = k; named = e; meets = accepted-meets k s z }
+named-known kind s None e z = absurd (omega arith)
 
 pub read_known : (kind : ℕ) (s : List ℕ) → (read_of kind s).number ≡ 0 → Known kind s
 unfolding read_of
 read_known kind s z = named-known kind s (kind_of kind) refl z
 
 -- a known kind is read as it is
-pub read_named_lem : (kind : ℕ) (s : List ℕ) (k : Kind) → kind_of kind ≡ Is k → read_of kind s ≡ read_as k s
+pub read_named_lem : (kind : ℕ) (s : List ℕ) (k : Kind) → kind_of kind ≡ Some k → read_of kind s ≡ read_as k s
 unfolding read_of
 read_named_lem kind s k e = rw e
 

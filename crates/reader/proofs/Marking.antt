@@ -16,7 +16,7 @@ use Rattle.text.specs.Characters.{within, takes, stops_at, front, each, digits, 
 use Rattle.numbers.specs.Numbers.{digit_of, letter_of, value_to, value_of, digits_of, says, word_of}
 use Rattle.numbers.specs.Dates.{month_days, leap_day, days_of, has_day, is_date}
 use Rattle.kinds.specs.declared.of_files.Kind.{Kind}
-use Rattle.kinds.specs.declared.of_files.Named.TheVariants.{Is}
+use Rattle.std.specs.Prelude.{Some}
 use Rattle.kinds.specs.Kinds.{fixed_for, kinds, kind_of}
 use Rattle.kinds.proofs.Forms.{of-form}
 use Rattle.kinds.proofs.Known.{known-every}
@@ -50,7 +50,7 @@ pub read-nothing : (k : Kind) → read_as k [] ≡ refused 2
 read-nothing k = read_short k [] (nothing-whole k)
 
 -- *Not trivial*: of each kind that a number names a file is accepted and another refused
-pub not-trivial : (n : ℕ) (k : Kind) → kind_of n ≡ Is k → (read_as k (empty_file k) ≡ accepted) × (read_as k [] ≡ refused 2)
+pub not-trivial : (n : ℕ) (k : Kind) → kind_of n ≡ Some k → (read_as k (empty_file k) ≡ accepted) × (read_as k [] ≡ refused 2)
 not-trivial n k e = (
   read-zero k (empty_file k) (eqb-true _ 0 (known-every (λ l. eqb (read_as l (empty_file l)).number 0) samples-good n k e)),
   read-nothing k,

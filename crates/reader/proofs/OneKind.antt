@@ -14,7 +14,7 @@ use Rattle.numbers.specs.Numbers.{word_of}
 use Rattle.kinds.specs.declared.of_files.Form.{Form}
 use Rattle.kinds.specs.declared.of_files.Own.{Own}
 use Rattle.kinds.specs.declared.of_files.Kind.{Kind}
-use Rattle.kinds.specs.declared.of_files.Named.TheVariants.{Is}
+use Rattle.std.specs.Prelude.{Some}
 use Rattle.kinds.specs.declared.of_files.Role.TheVariants.{Header}
 use Rattle.kinds.specs.Kinds.{kind, fixed_of, kind_of}
 use Rattle.tables.specs.Rows.{blank}
@@ -56,7 +56,7 @@ name-says k s m =
     ap word_of (ap (λ (start : ℕ). part start 4 s) (sym front) ∙ sym record-name) ∙ name-row k s m
 
 -- *One kind*: a file that is accepted as the kind of one number is accepted as that of no other
-pub one-kind : (m n : ℕ) (k l : Kind) → kind_of m ≡ Is k → kind_of n ≡ Is l → (s : List ℕ) → Meets k s → Meets l s → k ≡ l
+pub one-kind : (m n : ℕ) (k l : Kind) → kind_of m ≡ Some k → kind_of n ≡ Some l → (s : List ℕ) → Meets k s → Meets l s → k ≡ l
 one-kind m n k l a b s p q = one_name m n k l a b (sym (name-says k s p) ∙ name-says l s q)
 
 bad : {n : ℕ} → n ≡ 5 → n ≡ 0 → ⊥

@@ -1,9 +1,7 @@
 -- Reading a file: 1, 2, 3; then the records in file order and their items in item order, 4 and 5 as met; then 6 by item; then 7.
-use Rattle.std.specs.Prelude.{ℕ, ◌+◌, ◌%◌, Bool, cond, ◌&&◌, List, leb, eqb, length}
+use Rattle.std.specs.Prelude.{ℕ, ◌+◌, ◌%◌, Bool, cond, ◌&&◌, List, leb, eqb, length, Option, Some, None}
 use Rattle.answers.specs.declared.told.Answer.{Answer}
 use Rattle.kinds.specs.declared.of_files.Kind.{Kind}
-use Rattle.kinds.specs.declared.of_files.Named.{Named}
-use Rattle.kinds.specs.declared.of_files.Named.TheVariants.{Is, Unknown}
 use Rattle.answers.specs.Answers.{accepted, refused, ◌then◌}
 use Rattle.kinds.specs.Kinds.{fixed_of, kind_of, limit}
 use Rattle.records.specs.Records.{count_in}
@@ -24,9 +22,9 @@ unfoldable pub read_as : Kind → List ℕ → Answer
 read_as k s = length_tells k (length s) then records_tell k s then totals_tell k s then keys_tell k s
 
 -- 1: the kind is unknown
-abbrev pub read_named : Named → List ℕ → Answer
-read_named (Is k) s = read_as k s
-read_named Unknown s = refused 1
+abbrev pub read_named : Option Kind → List ℕ → Answer
+read_named (Some k) s = read_as k s
+read_named None s = refused 1
 
 unfoldable pub read_of : ℕ → List ℕ → Answer
 read_of kind s = read_named (kind_of kind) s

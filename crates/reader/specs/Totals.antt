@@ -14,11 +14,13 @@ use Rattle.records.specs.Quantities.{quantity_of}
 unfoldable pub total_holds : Kind → List ℕ → Total → Bool
 total_holds k s t = says (part t.1 t.2 (trailer_of k s)) (quantity_of k s t.3)
 
--- what is told of total j: refusal 6 at the trailer and its item
+-- what is told of a total: refusal 6 at the trailer and its item
+abbrev pub total_told : Kind → List ℕ → Total → Answer
+total_told k s t = cond (total_holds k s t) accepted (refused_at 6 (count_of k s - 1) t.0 0x30303030)
+
+-- what is told of total j
 unfoldable pub total_tells : Kind → List ℕ → ℕ → Answer
-total_tells k s j =
-    cond (total_holds k s (get_or (totals_of k) j no_total)) accepted
-    (refused_at 6 (count_of k s - 1) (get_or (totals_of k) j no_total).0 0x30303030)
+total_tells k s j = total_told k s (get_or (totals_of k) j no_total)
 
 -- what is told of the totals, by item
 unfoldable pub totals_tell : Kind → List ℕ → Answer

@@ -1,11 +1,12 @@
 // Reading a file: 1, 2, 3; then records and items in order; then totals; then keys.
 ghost use Rattle.std.specs.Prelude.{◌≡◌};
+ghost use Rattle.answers.specs.Refusing.{answer_of};
 ghost use Rattle.reader.specs.Reading.{is_whole, length_tells, read_as, read_of};
 
 use crate::{judged, repeats, totals};
-use answers::told::Answer;
+use answers::refusing::Refusal;
 use kinds::of_files;
-use kinds::of_files::{Fixed, Kind, LIMIT, Named};
+use kinds::of_files::{Fixed, Kind, LIMIT};
 
 fn is_whole(kind: Kind, length: usize) -> bool
     ensures { result ≡ is_whole kind length }
@@ -15,44 +16,34 @@ fn is_whole(kind: Kind, length: usize) -> bool
 }
 
 // What the number of its bytes alone tells of a file of a kind.
-pub fn length_tells(kind: Kind, length: usize) -> Answer
-    ensures { result ≡ length_tells kind length }
+pub fn length_tells(kind: Kind, length: usize) -> Result<(), Refusal>
+    ensures { answer_of result ≡ length_tells kind length }
 {
-    if is_whole(kind, length) {
-        if length / Fixed::of(kind).size <= LIMIT + 2 {
-            return Answer::accepted();
-        }
-        return Answer::refused(3);
+    if !is_whole(kind, length) {
+        return Err(Refusal::Length);
     }
-    Answer::refused(2)
+    if LIMIT + 2 < length / Fixed::of(kind).size {
+        return Err(Refusal::TooMany);
+    }
+    Ok(())
 }
 
 // Reads any bytes as a file of a kind.
-pub fn read_as(kind: Kind, file: &[u8]) -> Answer
-    ensures { result ≡ read_as kind file.now }
+pub fn read_as(kind: Kind, file: &[u8]) -> Result<(), Refusal>
+    ensures { answer_of result ≡ read_as kind file.now }
 {
-    let of_length = length_tells(kind, file.len());
-    if of_length.number != 0 {
-        return of_length;
-    }
-    let of_records = judged::records_tell(kind, file);
-    if of_records.number != 0 {
-        return of_records;
-    }
-    let of_totals = totals::totals_tell(kind, file);
-    if of_totals.number != 0 {
-        return of_totals;
-    }
+    length_tells(kind, file.len())?;
+    judged::records_tell(kind, file)?;
+    totals::totals_tell(kind, file)?;
     repeats::keys_tell(kind, file)
 }
 
 // Reads any bytes as a file of any kind: `kind` is a kind's four letters as one number.
-pub fn read(kind: u64, file: &[u8]) -> Answer
-    ensures { result ≡ read_of kind file.now }
+pub fn read(kind: u64, file: &[u8]) -> Result<(), Refusal>
+    ensures { answer_of result ≡ read_of kind file.now }
 {
-    let named = of_files::kind_of(kind);
-    match named {
-        Named::Is(known) => read_as(known, file),
-        Named::Unknown => Answer::refused(1),
-    }
+    let Some(known) = of_files::kind_of(kind) else {
+        return Err(Refusal::UnknownKind);
+    };
+    read_as(known, file)
 }

@@ -17,11 +17,7 @@ pub fn count(kind: Kind, file: &[u8]) -> usize
 pub fn data_count(kind: Kind, file: &[u8]) -> usize
     ensures { result ≡ data_of kind file.now }
 {
-    let records = count(kind, file);
-    if records < 2 {
-        return 0;
-    }
-    records - 2
+    count(kind, file).saturating_sub(2)
 }
 
 // Record i of a file of a kind; 0 is the header.

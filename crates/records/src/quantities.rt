@@ -20,10 +20,7 @@ fn if_equal(a: u8, b: u8, n: u64) -> u64
     ensures value { result ≡ cond (eqb a b) n 0 }
     ensures upper_bound { result ≤ n }
 {
-    if a == b {
-        return n;
-    }
-    0
+    if a == b { n } else { 0 }
 }
 
 // 1 where the centre set the code of a debit result, else 0.
@@ -34,13 +31,13 @@ fn by_centre(rec: &[u8]) -> u64
 {
     let maker = makers::maker_of(base_ten::word(parts::part(rec, items::MARK + 1, 4)));
     match maker {
-        Maker::None => 0,
-        Maker::Bank => 0,
+        Maker::None | Maker::Bank => 0,
         Maker::Centre => 1,
     }
 }
 
 // What one data record adds to a quantity.
+#[tactic(auto, unfolding(crate::specs::Quantities::worth))]
 fn worth(quantity: Quantity, rec: &[u8]) -> u64
     requires { 120 ≤ length rec.now }
     ensures value { result ≡ worth quantity rec.now }
@@ -75,12 +72,9 @@ pub fn quantity_of(kind: Kind, file: &[u8], quantity: Quantity) -> u64
     requires file_bound { count_of kind file.now ≤ limit + 2 }
     ensures { result ≡ quantity_of kind file.now quantity }
 {
-    let n = listed::count(kind, file) - 2;
-    let mut sum: u64 = 0;
-    let mut i = 0;
-    while i < n {
+    let mut sum = 0;
+    for i in 0..listed::data_count(kind, file) {
         sum += worth_at(kind, file, quantity, i);
-        i += 1;
     }
     sum
 }

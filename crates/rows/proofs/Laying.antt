@@ -21,7 +21,7 @@ use Rattle.kinds.specs.Kinds.{fixed_of}
 use Rattle.kinds.proofs.Forms.{of-record}
 use Rattle.tables.specs.Rows.{blank}
 use Rattle.tables.specs.Tables.{header_front, enrolment_header, debit_header, data_front, enrolment_data, debit_data, enrolment_request_data, enrolment_result_data, debit_request_data, debit_result_data, bank_enrolment_data, trailer_front, enrolment_trailer, enrolment_request_trailer, enrolment_result_trailer, debit_request_trailer, debit_result_trailer, rows_for, rows_of}
-use Rattle.tables.proofs.Tiling.{row_inside}
+use Rattle.tables.proofs.Tiling.{row_within}
 use Rattle.rows.specs.Laid.{laid, most, laid_out}
 
 -- blank rows stand behind a table that fits
@@ -86,12 +86,6 @@ tables-fit = of-record (λ f role. leb (length (rows_for f role)) most) refl
 
 pub rows_fit : (k : Kind) (role : Role) → length (rows_of k role) ≤ most
 rows_fit k role = leb-true (length (rows_of k role)) most (tables-fit k.form role)
-
-row_within : (k : Kind) (role : Role) (i : ℕ) → (get_or (rows_of k role) i blank).1 + (get_or (rows_of k role) i blank).2 ≤ (fixed_of k).size
-row_within k role i =
-    ⊎_elim (λ t. row_inside k role i (ltb-true i (length (rows_of k role)) t))
-    (λ f. rw (get_or-eq_default (rows_of k role) blank {n = i} (ltb-false i (length (rows_of k role)) f)) zero-le)
-    (either (ltb i (length (rows_of k role))))
 
 -- a table that lays out a record's rows: its length, its rows, and that each of them, the blank ones too, lies inside the record
 module _ (k : Kind) (role : Role) (rows : List Row) (laid_as : rows ≡ laid_out (rows_of k role)) where

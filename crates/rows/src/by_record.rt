@@ -1,15 +1,9 @@
 // The rows of every record of every form. A code is its four bytes as one number; "0000" where breaking the rule is refusal 5.
 ghost use Rattle.std.specs.Prelude.{◌≡◌};
-ghost use Rattle.tables.specs.Tables.{enrolment_header, debit_header, enrolment_request_data, enrolment_result_data, debit_request_data, debit_result_data, bank_enrolment_data, enrolment_request_trailer, enrolment_result_trailer, debit_request_trailer, debit_result_trailer, rows_of};
-ghost use Rattle.rows.specs.Laid.{laid_out};
+ghost use Rattle.tables.specs.Tables.{rows_of};
 
 use kinds::of_files::{Form, Kind, Role};
 use tables::row::{Class, Row};
-
-// The most rows that a record has; shorter tables end in blank rows.
-pub const MOST: usize = 18;
-
-const BLANK: Row = Row(0, 0, 0, Class::Each(0, 0), 0);
 
 const MARK_H: Class = Class::Each(b'H', b'H');
 
@@ -65,7 +59,7 @@ const CA011: u32 = 0x4130_3131;
 
 const CA012: u32 = 0x4130_3132;
 
-const ENROLMENT_HEADER: [Row; MOST] = [
+const ENROLMENT_HEADER: [Row; 9] = [
     Row(1, 0, 1, MARK_H, C0081),
     Row(2, 1, 8, ZEROS, C0081),
     Row(3, 9, 10, Class::Institution, C0088),
@@ -75,18 +69,9 @@ const ENROLMENT_HEADER: [Row; MOST] = [
     Row(5, 27, 6, Class::Date, C9998),
     Row(5, 27, 6, Class::NameDate, C0000),
     Row(6, 33, 87, SPACES, C0089),
-    BLANK,
-    BLANK,
-    BLANK,
-    BLANK,
-    BLANK,
-    BLANK,
-    BLANK,
-    BLANK,
-    BLANK,
 ];
 
-const DEBIT_HEADER: [Row; MOST] = [
+const DEBIT_HEADER: [Row; 11] = [
     Row(1, 0, 1, MARK_H, C0081),
     Row(2, 1, 8, ZEROS, C0081),
     Row(3, 9, 10, Class::Institution, C0088),
@@ -98,16 +83,9 @@ const DEBIT_HEADER: [Row; MOST] = [
     Row(6, 33, 7, DIGITS, C0011),
     Row(7, 40, 16, Class::Filled, C0098),
     Row(8, 56, 94, SPACES, C0089),
-    BLANK,
-    BLANK,
-    BLANK,
-    BLANK,
-    BLANK,
-    BLANK,
-    BLANK,
 ];
 
-const ENROLMENT_REQUEST_DATA: [Row; MOST] = [
+const ENROLMENT_REQUEST_DATA: [Row; 16] = [
     Row(1, 0, 1, MARK_R, C0081),
     Row(2, 1, 8, Class::Serial, C0081),
     Row(3, 9, 10, Class::AsHeader, C0000),
@@ -124,11 +102,9 @@ const ENROLMENT_REQUEST_DATA: [Row; MOST] = [
     Row(14, 97, 12, FREE, C0088),
     Row(15, 109, 1, SPACES, C0089),
     Row(16, 110, 10, SPACES, C0089),
-    BLANK,
-    BLANK,
 ];
 
-const ENROLMENT_RESULT_DATA: [Row; MOST] = [
+const ENROLMENT_RESULT_DATA: [Row; 16] = [
     Row(1, 0, 1, MARK_R, C0081),
     Row(2, 1, 8, Class::Serial, C0081),
     Row(3, 9, 10, Class::AsHeader, C0000),
@@ -145,11 +121,9 @@ const ENROLMENT_RESULT_DATA: [Row; MOST] = [
     Row(14, 97, 12, FREE, C0088),
     Row(15, 109, 1, SPACES, C0089),
     Row(16, 110, 10, SPACES, C0089),
-    BLANK,
-    BLANK,
 ];
 
-const BANK_ENROLMENT_DATA: [Row; MOST] = [
+const BANK_ENROLMENT_DATA: [Row; 16] = [
     Row(1, 0, 1, MARK_R, C0081),
     Row(2, 1, 8, Class::Serial, C0081),
     Row(3, 9, 10, Class::AsHeader, C0000),
@@ -166,11 +140,9 @@ const BANK_ENROLMENT_DATA: [Row; MOST] = [
     Row(14, 97, 12, FREE, C0088),
     Row(15, 109, 1, CHANNELS, C0088),
     Row(16, 110, 10, SPACES, C0089),
-    BLANK,
-    BLANK,
 ];
 
-const DEBIT_REQUEST_DATA: [Row; MOST] = [
+const DEBIT_REQUEST_DATA: [Row; 18] = [
     Row(1, 0, 1, MARK_R, C0081),
     Row(2, 1, 8, Class::Serial, C0081),
     Row(3, 9, 10, Class::AsHeader, C0000),
@@ -191,7 +163,7 @@ const DEBIT_REQUEST_DATA: [Row; MOST] = [
     Row(15, 129, 21, SPACES, C0089),
 ];
 
-const DEBIT_RESULT_DATA: [Row; MOST] = [
+const DEBIT_RESULT_DATA: [Row; 16] = [
     Row(1, 0, 1, MARK_R, C0081),
     Row(2, 1, 8, Class::Serial, C0081),
     Row(3, 9, 10, Class::AsHeader, C0000),
@@ -208,11 +180,9 @@ const DEBIT_RESULT_DATA: [Row; MOST] = [
     Row(13, 116, 1, TYPES, C0075),
     Row(14, 117, 12, FREE, C0088),
     Row(15, 129, 21, SPACES, C0089),
-    BLANK,
-    BLANK,
 ];
 
-const ENROLMENT_REQUEST_TRAILER: [Row; MOST] = [
+const ENROLMENT_REQUEST_TRAILER: [Row; 11] = [
     Row(1, 0, 1, MARK_T, C0081),
     Row(2, 1, 8, NINES, C0081),
     Row(3, 9, 10, Class::AsHeader, C0000),
@@ -224,16 +194,9 @@ const ENROLMENT_REQUEST_TRAILER: [Row; MOST] = [
     Row(9, 59, 8, DIGITS, C0088),
     Row(10, 67, 43, SPACES, C0089),
     Row(11, 110, 10, SPACES, C0089),
-    BLANK,
-    BLANK,
-    BLANK,
-    BLANK,
-    BLANK,
-    BLANK,
-    BLANK,
 ];
 
-const ENROLMENT_RESULT_TRAILER: [Row; MOST] = [
+const ENROLMENT_RESULT_TRAILER: [Row; 11] = [
     Row(1, 0, 1, MARK_T, C0081),
     Row(2, 1, 8, NINES, C0081),
     Row(3, 9, 10, Class::AsHeader, C0000),
@@ -245,16 +208,9 @@ const ENROLMENT_RESULT_TRAILER: [Row; MOST] = [
     Row(9, 59, 8, DIGITS, C0088),
     Row(10, 67, 43, SPACES, C0089),
     Row(11, 110, 10, FREE, C0088),
-    BLANK,
-    BLANK,
-    BLANK,
-    BLANK,
-    BLANK,
-    BLANK,
-    BLANK,
 ];
 
-const DEBIT_REQUEST_TRAILER: [Row; MOST] = [
+const DEBIT_REQUEST_TRAILER: [Row; 11] = [
     Row(1, 0, 1, MARK_T, C0081),
     Row(2, 1, 8, NINES, C0081),
     Row(3, 9, 10, Class::AsHeader, C0000),
@@ -266,16 +222,9 @@ const DEBIT_REQUEST_TRAILER: [Row; MOST] = [
     Row(9, 64, 13, ZEROS, C0090),
     Row(10, 77, 63, SPACES, C0089),
     Row(11, 140, 10, SPACES, C0089),
-    BLANK,
-    BLANK,
-    BLANK,
-    BLANK,
-    BLANK,
-    BLANK,
-    BLANK,
 ];
 
-const DEBIT_RESULT_TRAILER: [Row; MOST] = [
+const DEBIT_RESULT_TRAILER: [Row; 15] = [
     Row(1, 0, 1, MARK_T, C0081),
     Row(2, 1, 8, NINES, C0081),
     Row(3, 9, 10, Class::AsHeader, C0000),
@@ -291,103 +240,30 @@ const DEBIT_RESULT_TRAILER: [Row; MOST] = [
     Row(13, 100, 11, ZEROS, C0090),
     Row(14, 111, 29, SPACES, C0089),
     Row(15, 140, 10, FREE, C0088),
-    BLANK,
-    BLANK,
-    BLANK,
 ];
 
-fn enrolment_header() -> [Row; MOST]
-    ensures { result ≡ laid_out enrolment_header }
+// The rows of the record.
+pub fn rows_of(kind: Kind, role: Role) -> &'static [Row]
+    ensures { result.now ≡ rows_of kind role }
 {
-    ENROLMENT_HEADER
-}
-
-fn debit_header() -> [Row; MOST]
-    ensures { result ≡ laid_out debit_header }
-{
-    DEBIT_HEADER
-}
-
-fn enrolment_request_data() -> [Row; MOST]
-    ensures { result ≡ laid_out enrolment_request_data }
-{
-    ENROLMENT_REQUEST_DATA
-}
-
-fn enrolment_result_data() -> [Row; MOST]
-    ensures { result ≡ laid_out enrolment_result_data }
-{
-    ENROLMENT_RESULT_DATA
-}
-
-fn bank_enrolment_data() -> [Row; MOST]
-    ensures { result ≡ laid_out bank_enrolment_data }
-{
-    BANK_ENROLMENT_DATA
-}
-
-fn debit_request_data() -> [Row; MOST]
-    ensures { result ≡ laid_out debit_request_data }
-{
-    DEBIT_REQUEST_DATA
-}
-
-fn debit_result_data() -> [Row; MOST]
-    ensures { result ≡ laid_out debit_result_data }
-{
-    DEBIT_RESULT_DATA
-}
-
-fn enrolment_request_trailer() -> [Row; MOST]
-    ensures { result ≡ laid_out enrolment_request_trailer }
-{
-    ENROLMENT_REQUEST_TRAILER
-}
-
-fn enrolment_result_trailer() -> [Row; MOST]
-    ensures { result ≡ laid_out enrolment_result_trailer }
-{
-    ENROLMENT_RESULT_TRAILER
-}
-
-fn debit_request_trailer() -> [Row; MOST]
-    ensures { result ≡ laid_out debit_request_trailer }
-{
-    DEBIT_REQUEST_TRAILER
-}
-
-fn debit_result_trailer() -> [Row; MOST]
-    ensures { result ≡ laid_out debit_result_trailer }
-{
-    DEBIT_RESULT_TRAILER
-}
-
-// The rows of the record, handed out once for all of them.
-pub fn rows_of(kind: Kind, role: Role) -> [Row; MOST]
-    ensures { result ≡ laid_out (rows_of kind role) }
-{
-    let form = kind.form;
     match role {
-        Role::Header => match form {
-            Form::EnrolmentRequest => enrolment_header(),
-            Form::EnrolmentResult => enrolment_header(),
-            Form::DebitRequest => debit_header(),
-            Form::DebitResult => debit_header(),
-            Form::BankEnrolment => enrolment_header(),
+        Role::Header => match kind.form {
+            Form::EnrolmentRequest | Form::EnrolmentResult | Form::BankEnrolment =>
+                &ENROLMENT_HEADER,
+            Form::DebitRequest | Form::DebitResult => &DEBIT_HEADER,
         },
-        Role::Data => match form {
-            Form::EnrolmentRequest => enrolment_request_data(),
-            Form::EnrolmentResult => enrolment_result_data(),
-            Form::DebitRequest => debit_request_data(),
-            Form::DebitResult => debit_result_data(),
-            Form::BankEnrolment => bank_enrolment_data(),
+        Role::Data => match kind.form {
+            Form::EnrolmentRequest => &ENROLMENT_REQUEST_DATA,
+            Form::EnrolmentResult => &ENROLMENT_RESULT_DATA,
+            Form::DebitRequest => &DEBIT_REQUEST_DATA,
+            Form::DebitResult => &DEBIT_RESULT_DATA,
+            Form::BankEnrolment => &BANK_ENROLMENT_DATA,
         },
-        Role::Trailer => match form {
-            Form::EnrolmentRequest => enrolment_request_trailer(),
-            Form::EnrolmentResult => enrolment_result_trailer(),
-            Form::DebitRequest => debit_request_trailer(),
-            Form::DebitResult => debit_result_trailer(),
-            Form::BankEnrolment => enrolment_result_trailer(),
+        Role::Trailer => match kind.form {
+            Form::EnrolmentRequest => &ENROLMENT_REQUEST_TRAILER,
+            Form::EnrolmentResult | Form::BankEnrolment => &ENROLMENT_RESULT_TRAILER,
+            Form::DebitRequest => &DEBIT_REQUEST_TRAILER,
+            Form::DebitResult => &DEBIT_RESULT_TRAILER,
         },
     }
 }

@@ -1,5 +1,5 @@
 -- Whether bytes have the frame of signed evidence.
-use Rattle.std.specs.Prelude.{ℕ, zero, suc, ◌+◌, ◌-◌, ◌%◌, Bool, true, false, cond, not, ◌&&◌, ◌||◌, List, ◌∷◌, leb, ltb, eqb, length, get_or, drop}
+use Rattle.std.specs.Prelude.{ℕ, zero, suc, ◌+◌, ◌-◌, ◌%◌, Bool, true, false, cond, not, ◌&&◌, ◌||◌, List, ◌∷◌, leb, ltb, eqb, length, get_or, drop, Option, None, Some}
 use Rattle.laws.specs.Part.{part, begins}
 use Rattle.signed.specs.Shape.{levels, list_bit, number_of, identifier}
 
@@ -21,6 +21,11 @@ is_framed s = not (eqb (get_or s 0 0 % 32) 31) && (is_shortest s && leb (front_o
 -- how many bytes these are in all; 0 where s does not begin so
 unfoldable pub framed_in : List ℕ → ℕ
 framed_in s = cond (is_framed s) (front_of s + said_in s) 0
+
+-- a size as what is there or not: 0 is none
+abbrev pub some_size : ℕ → Option ℕ
+some_size zero = None
+some_size (suc n) = Some (suc n)
 
 unfoldable pub contents_in : List ℕ → List ℕ
 contents_in s = part (front_of s) (said_in s) s

@@ -17,11 +17,7 @@ const LEVELS: usize = 13;
 fn is_one(tag: u8, s: &[u8]) -> bool
     ensures { result ≡ is_one tag s.now }
 {
-    if parts::byte(s, 0) == tag {
-        let size = heads::framed(s);
-        return 0 < size && size == s.len();
-    }
-    false
+    parts::byte(s, 0) == tag && heads::framed(s) == Some(s.len())
 }
 
 // One value tagged A0 that holds one sequence, and this values.

@@ -1,7 +1,9 @@
 // How a value begins: its tag and its length.
+#![tactic(auto, unfolding(crate::specs::Checking::front_of, crate::specs::Checking::is_shortest))]
+
 ghost use Rattle.std.specs.Prelude.{◌≡◌, ◌+◌, ◌≤◌, length};
 ghost use Rattle.signed.specs.Shape.{number_of, list_bit};
-ghost use Rattle.signed.specs.Checking.{front_of, said_in, is_shortest, framed_in};
+ghost use Rattle.signed.specs.Checking.{front_of, said_in, is_shortest, framed_in, some_size};
 
 use text::parts;
 
@@ -17,11 +19,7 @@ pub(crate) fn front(s: &[u8]) -> usize
     ensures value { result ≡ front_of s.now }
     ensures upper_bound { result ≤ 129 }
 {
-    let first = parts::byte(s, 1);
-    if first < 128 {
-        return 2;
-    }
-    2 + (first - 128) as usize
+    2 + usize::from(parts::byte(s, 1).saturating_sub(128))
 }
 
 // The number that at most eight bytes say in base 256.
@@ -29,11 +27,9 @@ fn number(s: &[u8]) -> usize
     requires { length s.now ≤ 8 }
     ensures { result ≡ number_of s.now }
 {
-    let mut n: usize = 0;
-    let mut i = 0;
-    while i < s.len() {
-        n = n * 256 + parts::byte(s, i) as usize;
-        i += 1;
+    let mut n = 0;
+    for b in s {
+        n = n * 256 + usize::from(*b);
     }
     n
 }
@@ -46,9 +42,9 @@ fn said(s: &[u8]) -> usize
 {
     let first = parts::byte(s, 1);
     if first < 128 {
-        return first as usize;
+        return usize::from(first);
     }
-    number(parts::part(s, 2, (first - 128) as usize))
+    number(parts::part(s, 2, usize::from(first - 128)))
 }
 
 // The length, which says so many, has the shortest form.
@@ -57,38 +53,27 @@ fn is_shortest(s: &[u8], said: usize) -> bool
     ensures { result ≡ is_shortest s.now }
 {
     let first = parts::byte(s, 1);
-    if first < 128 {
-        return true;
-    }
-    if first == 255 {
-        return false;
-    }
-    if parts::byte(s, 2) == 0 {
-        return false;
-    }
-    128 <= said
+    first < 128 || (first < 255 && parts::byte(s, 2) > 0 && 128 <= said)
 }
 
-// How many bytes a tag, its length and as many contents are with which s begins; 0 where it does not begin so.
-pub(crate) fn framed(s: &[u8]) -> usize
-    ensures { result ≡ framed_in s.now }
+// How many bytes a tag, its length and as many contents are with which s begins, where it begins so.
+pub(crate) fn framed(s: &[u8]) -> Option<usize>
+    ensures { result ≡ some_size (framed_in s.now) }
 {
     let front = front(s);
     if s.len() < front {
-        return 0;
+        return None;
     }
     // A length of more than eight bytes is longer than any slice.
     if 10 < front {
-        return 0;
+        return None;
     }
     if parts::byte(s, 0) % 32 == 31 {
-        return 0;
+        return None;
     }
     let said = said(s);
-    if is_shortest(s, said) {
-        if said <= s.len() - front {
-            return front + said;
-        }
+    if is_shortest(s, said) && said <= s.len() - front {
+        return Some(front + said);
     }
-    0
+    None
 }

@@ -1,7 +1,7 @@
 -- The maker of a code: by the list that it stands in, and none where it is blank.
 -- Assumes nothing.
 use Prim.Native.Nat.{ℕ, ◌+◌, ◌-◌, ◌≤◌, ◌<◌}
-use mathlib.Core.Bool.{true, false}
+use mathlib.Core.Bool.{true, false, cond}
 use mathlib.Core.List.{◌++◌, map}
 use mathlib.Core.Path.{◌≡◌, refl, sym, ◌∙◌, ap}
 use mathlib.Core.Logic.{◌⊎◌, ◌↔◌, ⊎_elim}
@@ -15,7 +15,9 @@ use Rattle.laws.proofs.Bools.{either}
 use Rattle.laws.proofs.Leasts.{least-is}
 use Rattle.laws.proofs.Parts.{inside}
 use Rattle.tables.specs.declared.makers.Maker.{Maker}
-use Rattle.tables.specs.declared.makers.Maker.TheVariants.{None, Bank, Centre}
+use Rattle.tables.specs.declared.makers.Maker.TheVariants as makers
+use Rattle.tables.specs.declared.makers.Maker.TheVariants.{Bank, Centre}
+use Rattle.std.specs.Prelude.{Option, Some, None}
 use Rattle.tables.specs.Among.{code_is, place_among, is_among, Among}
 use Rattle.tables.specs.Codes.{bank_codes, centre_codes, table_codes, is_table_code}
 use Rattle.tables.specs.Makers.{maker_of, maker_number, by_centre}
@@ -26,12 +28,12 @@ pub makers-of-table : map maker_of table_codes ≡ map (λ (c : ℕ). Bank) bank
 unfolding maker_of is_among place_among code_is least further table_codes bank_codes centre_codes
 makers-of-table = refl
 
-pub blank_none : maker_of 0x20202020 ≡ None
+pub blank_none : maker_of 0x20202020 ≡ makers.None
 unfolding maker_of is_among place_among code_is least further bank_codes centre_codes
 blank_none = refl
 
 pub centre-one : (m : Maker) → by_centre m ≤ 1
-centre-one None = omega arith
+centre-one makers.None = omega arith
 centre-one Bank = omega arith
 centre-one Centre = omega arith
 
@@ -45,7 +47,7 @@ module _ (code : ℕ) where
   unfolding maker_of
   maker-centre f t = rw (f, t)
 
-  maker-none : is_among bank_codes code ≡ false → is_among centre_codes code ≡ false → maker_of code ≡ None
+  maker-none : is_among bank_codes code ≡ false → is_among centre_codes code ≡ false → maker_of code ≡ makers.None
   unfolding maker_of
   maker-none f g = rw (f, g)
 
@@ -59,7 +61,7 @@ module _ (code : ℕ) where
     where
       other : maker_of code ≡ Bank → is_among bank_codes code ≡ false → ⊥
       other e f =
-          ⊎_elim (λ t. let z = numbered Bank Centre e (maker-centre f t) in omega arith) (λ g. let z = numbered Bank None e (maker-none f g) in omega arith)
+          ⊎_elim (λ t. let z = numbered Bank Centre e (maker-centre f t) in omega arith) (λ g. let z = numbered Bank makers.None e (maker-none f g) in omega arith)
           (either (is_among centre_codes code))
 
   -- the centre's exactly when it is one of the centre's
@@ -79,7 +81,7 @@ module _ (code : ℕ) where
     where
       second : maker_of code ≡ Centre → is_among bank_codes code ≡ false → Among centre_codes code
       second e f =
-          ⊎_elim (among-exactly centre_codes code).0 (λ g. absurd (let z = numbered Centre None e (maker-none f g) in omega arith))
+          ⊎_elim (among-exactly centre_codes code).0 (λ g. absurd (let z = numbered Centre makers.None e (maker-none f g) in omega arith))
           (either (is_among centre_codes code))
 
   -- a code of the table stands in the banks' list or, past it, in the centre's
@@ -108,7 +110,7 @@ module _ (code : ℕ) where
   pub centre-found : 25 ≤ found → found < 48 → maker_of code ≡ Centre
   centre-found h l = centre-exactly.1 (centre-half found (found-is l) h l)
 
-  pub none_found : 48 ≤ found → maker_of code ≡ None
+  pub none_found : 48 ≤ found → maker_of code ≡ makers.None
   unfolding place_among code_is table_codes bank_codes centre_codes
   none_found h = maker-none (among_none bank_codes code (λ k l. first k l)) (among_none centre_codes code (λ k l. past k l))
     where
@@ -121,12 +123,34 @@ module _ (code : ℕ) where
       past : (k : ℕ) → k < 23 → code_is centre_codes code k ≡ false
       past k l = rw (← get_or-append-add bank_codes centre_codes k 0) (nowhere (25 + k) (omega arith))
 
+  -- what `place` answers says where it was found, or that it was not
+  abbrev answered : Option ℕ
+  answered = cond (is_table_code code) (Some found) None
+
+  answered-some : (p : ℕ) → answered ≡ Some p → (found ≡ p) × (found < 48)
+  unfolding is_among table_codes bank_codes centre_codes
+  answered-some p e =
+      ⊎_elim (λ t. let s = rw t at e in (cc, ltb-true found 48 t)) (λ f. absurd (let s = rw f at e in cc)) (either (ltb found 48))
+
+  answered-none : answered ≡ None → 48 ≤ found
+  unfolding is_among table_codes bank_codes centre_codes
+  answered-none e = ⊎_elim (λ t. absurd (let s = rw t at e in cc)) (λ f. ltb-false found 48 f) (either (ltb found 48))
+
+  pub bank-placed : (p : ℕ) → answered ≡ Some p → p < 25 → maker_of code ≡ Bank
+  bank-placed p e h = let s = answered-some p e in bank-found (omega (arith, s.0))
+
+  pub centre-placed : (p : ℕ) → answered ≡ Some p → 25 ≤ p → maker_of code ≡ Centre
+  centre-placed p e h = let s = answered-some p e in centre-found (omega (arith, s.0)) s.1
+
+  pub none_placed : answered ≡ None → maker_of code ≡ makers.None
+  none_placed e = none_found (answered-none e)
+
   -- none exactly when it is blank: of a code that is blank or in the table, as every result has one
-  pub none-exactly : (is_table_code code ≡ true) ⊎ (code ≡ 0x20202020) → (maker_of code ≡ None) ↔ (code ≡ 0x20202020)
+  pub none-exactly : (is_table_code code ≡ true) ⊎ (code ≡ 0x20202020) → (maker_of code ≡ makers.None) ↔ (code ≡ 0x20202020)
   unfolding is_among table_codes bank_codes centre_codes
   none-exactly c = (λ e. ⊎_elim (λ t. absurd (made e (ltb-true found 48 t))) (λ b. b) c, λ b. rw b blank_none)
     where
-      made : maker_of code ≡ None → found < 48 → ⊥
+      made : maker_of code ≡ makers.None → found < 48 → ⊥
       made e l =
-          ⊎_elim (λ t. let z = numbered None Bank e (bank-found (ltb-true found 25 t)) in omega arith)
-          (λ f. let z = numbered None Centre e (centre-found (ltb-false found 25 f) l) in omega arith) (either (ltb found 25))
+          ⊎_elim (λ t. let z = numbered makers.None Bank e (bank-found (ltb-true found 25 t)) in omega arith)
+          (λ f. let z = numbered makers.None Centre e (centre-found (ltb-false found 25 f) l) in omega arith) (either (ltb found 25))

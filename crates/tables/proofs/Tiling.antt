@@ -1,16 +1,16 @@
 -- The rows of every record fill it, and so every row lies inside its record.
 -- Assumes nothing.
-use Prim.Native.Nat.{ℕ, zero, suc, ◌+◌, ◌≤◌, ◌<◌}
+use Prim.Native.Nat.{ℕ, zero, suc, ◌+◌, ◌≤◌, ◌<◌, zero-le}
 use mathlib.Core.Bool.{Bool, true, ◌&&◌, ◌||◌}
 use mathlib.Core.List.{List, [], ◌∷◌}
 use mathlib.Core.Path.{◌≡◌, refl}
 use mathlib.Core.Logic.{⊎_elim}
 use native.Mathlib.Nat.{le_trans, le_of_eq, le_of_suc-le-suc, not-suc-le-zero}
 use native.Mathlib.Omega.{arith}
-use borrow.Author.Tests.{eqb-true, leb-true}
-use lib.Dec.{eqb, leb}
-use lib.ListN.{length, get_or}
-use Rattle.laws.proofs.Bools.{and_left, and_right, or_cases}
+use borrow.Author.Tests.{eqb-true, leb-true, ltb-true, ltb-false}
+use lib.Dec.{eqb, leb, ltb}
+use lib.ListN.{length, get_or, get_or-eq_default}
+use Rattle.laws.proofs.Bools.{either, and_left, and_right, or_cases}
 use Rattle.kinds.specs.declared.of_files.Kind.{Kind}
 use Rattle.kinds.specs.declared.of_files.Form.{Form}
 use Rattle.kinds.specs.declared.of_files.Role.{Role}
@@ -69,6 +69,13 @@ tiles-inside whole item start size (r ∷ rows) t (suc i) h =
 pub row_inside : (k : Kind) (role : Role) (i : ℕ) → i < length (rows_of k role) → (get_or (rows_of k role) i blank).1 + (get_or (rows_of k role) i blank).2 ≤ (fixed_of k).size
 unfolding tiles
 row_inside k role i h = tiles-inside (fixed_of k).size 0 0 0 (rows_of k role) (rows-tile k role) i h
+
+-- past the last row too, where a row is blank
+pub row_within : (k : Kind) (role : Role) (i : ℕ) → (get_or (rows_of k role) i blank).1 + (get_or (rows_of k role) i blank).2 ≤ (fixed_of k).size
+row_within k role i =
+    ⊎_elim (λ t. row_inside k role i (ltb-true i (length (rows_of k role)) t))
+    (λ f. rw (get_or-eq_default (rows_of k role) blank {n = i} (ltb-false i (length (rows_of k role)) f)) zero-le)
+    (either (ltb i (length (rows_of k role))))
 
 -- a record of any form has at least 120 bytes
 pub size-least : (k : Kind) → 120 ≤ (fixed_of k).size

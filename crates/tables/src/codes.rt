@@ -1,10 +1,10 @@
 // The failure codes: four bytes as one number.
-ghost use Rattle.std.specs.Prelude.{◌≡◌};
+ghost use Rattle.std.specs.Prelude.{◌≡◌, cond};
 ghost use Rattle.tables.specs.Among.{place_among};
 ghost use Rattle.tables.specs.Codes.{table_codes, is_table_code};
 
 // The table codes: the 25 set by banks, then the 23 set by the centre.
-pub(crate) const CODES: [u64; 48] = [
+const CODES: [u64; 48] = [
     0x3030_3132,
     0x3030_3134,
     0x3030_3135,
@@ -55,24 +55,16 @@ pub(crate) const CODES: [u64; 48] = [
     0x3939_3939,
 ];
 
-// Where the code stands in the table; past its end where it is none of them.
-pub(crate) fn place(code: u64) -> usize
-    ensures { result ≡ place_among table_codes code }
+// Where the code stands in the table, where it is one of it.
+pub(crate) fn place(code: u64) -> Option<usize>
+    ensures { result ≡ cond (is_table_code code) (Some (place_among table_codes code)) None }
 {
-    let codes = CODES;
-    let mut i = 0;
-    while i < codes.len() {
-        if codes[i] == code {
-            return i;
-        }
-        i += 1;
-    }
-    codes.len()
+    CODES.iter().position(|c| *c == code)
 }
 
 // The code is one of the table.
 pub fn table_code(code: u64) -> bool
     ensures { result ≡ is_table_code code }
 {
-    place(code) < CODES.len()
+    CODES.contains(&code)
 }

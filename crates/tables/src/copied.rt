@@ -1,6 +1,6 @@
 // The items that a result copies from its request: rows of item, start and length.
-ghost use Rattle.std.specs.Prelude.{◌≡◌, ◌<◌, length, get_or};
-ghost use Rattle.tables.specs.Copied.{no_item, enrolment_copied, debit_copied, copied_of};
+ghost use Rattle.std.specs.Prelude.{◌≡◌};
+ghost use Rattle.tables.specs.Copied.{copied_of};
 
 use kinds::of_files::{Form, Kind};
 
@@ -38,45 +38,12 @@ const DEBIT_COPIED: [Copied; 11] = [
     Copied(15, 129, 21),
 ];
 
-fn enrolment_copied(i: usize) -> Copied
-    requires { i < 13 }
-    ensures { result ≡ get_or enrolment_copied i no_item }
+// The items that a result of the kind, or of its pair, copies.
+pub fn copied_of(kind: Kind) -> &'static [Copied]
+    ensures { result.now ≡ copied_of kind }
 {
-    ENROLMENT_COPIED[i]
-}
-
-fn debit_copied(i: usize) -> Copied
-    requires { i < 11 }
-    ensures { result ≡ get_or debit_copied i no_item }
-{
-    DEBIT_COPIED[i]
-}
-
-// How many items a result of the kind, or of its pair, copies.
-pub fn copied_count(kind: Kind) -> usize
-    ensures { result ≡ length (copied_of kind) }
-{
-    let form = kind.form;
-    match form {
-        Form::EnrolmentRequest => ENROLMENT_COPIED.len(),
-        Form::EnrolmentResult => ENROLMENT_COPIED.len(),
-        Form::DebitRequest => DEBIT_COPIED.len(),
-        Form::DebitResult => DEBIT_COPIED.len(),
-        Form::BankEnrolment => ENROLMENT_COPIED.len(),
-    }
-}
-
-// Copied item i.
-pub fn copied_at(kind: Kind, i: usize) -> Copied
-    requires { i < length (copied_of kind) }
-    ensures { result ≡ get_or (copied_of kind) i no_item }
-{
-    let form = kind.form;
-    match form {
-        Form::EnrolmentRequest => enrolment_copied(i),
-        Form::EnrolmentResult => enrolment_copied(i),
-        Form::DebitRequest => debit_copied(i),
-        Form::DebitResult => debit_copied(i),
-        Form::BankEnrolment => enrolment_copied(i),
+    match kind.form {
+        Form::EnrolmentRequest | Form::EnrolmentResult | Form::BankEnrolment => &ENROLMENT_COPIED,
+        Form::DebitRequest | Form::DebitResult => &DEBIT_COPIED,
     }
 }

@@ -19,12 +19,9 @@ pub enum Maker {
 pub fn maker_of(code: u64) -> Maker
     ensures { result ≡ maker_of code }
 {
-    let place = codes::place(code);
-    if place < BANKS {
-        return Maker::Bank;
+    match codes::place(code) {
+        Some(place) if place < BANKS => Maker::Bank,
+        Some(_) => Maker::Centre,
+        None => Maker::None,
     }
-    if place < codes::CODES.len() {
-        return Maker::Centre;
-    }
-    Maker::None
 }

@@ -1,6 +1,6 @@
 // The trailer's totals: rows of item, start, length and the quantity that the item must say.
-ghost use Rattle.std.specs.Prelude.{◌≡◌, ◌<◌, length, get_or};
-ghost use Rattle.tables.specs.Totals.{no_total, enrolment_totals, debit_request_totals, debit_result_totals, totals_of};
+ghost use Rattle.std.specs.Prelude.{◌≡◌};
+ghost use Rattle.tables.specs.Totals.{totals_of};
 
 use kinds::of_files::{Form, Kind};
 
@@ -50,52 +50,13 @@ const DEBIT_RESULT_TOTALS: [Total; 6] = [
     Total(10, 77, 8, Quantity::MarkedByCentre(b'N')),
 ];
 
-fn enrolment_total(i: usize) -> Total
-    requires { i < 4 }
-    ensures { result ≡ get_or enrolment_totals i no_total }
+// The totals of a trailer of the kind.
+pub fn totals_of(kind: Kind) -> &'static [Total]
+    ensures { result.now ≡ totals_of kind }
 {
-    ENROLMENT_TOTALS[i]
-}
-
-fn debit_request_total(i: usize) -> Total
-    requires { i < 3 }
-    ensures { result ≡ get_or debit_request_totals i no_total }
-{
-    DEBIT_REQUEST_TOTALS[i]
-}
-
-fn debit_result_total(i: usize) -> Total
-    requires { i < 6 }
-    ensures { result ≡ get_or debit_result_totals i no_total }
-{
-    DEBIT_RESULT_TOTALS[i]
-}
-
-// How many totals the trailer has.
-pub fn total_count(kind: Kind) -> usize
-    ensures { result ≡ length (totals_of kind) }
-{
-    let form = kind.form;
-    match form {
-        Form::EnrolmentRequest => ENROLMENT_TOTALS.len(),
-        Form::EnrolmentResult => ENROLMENT_TOTALS.len(),
-        Form::DebitRequest => DEBIT_REQUEST_TOTALS.len(),
-        Form::DebitResult => DEBIT_RESULT_TOTALS.len(),
-        Form::BankEnrolment => ENROLMENT_TOTALS.len(),
-    }
-}
-
-// Total i of the trailer.
-pub fn total_at(kind: Kind, i: usize) -> Total
-    requires { i < length (totals_of kind) }
-    ensures { result ≡ get_or (totals_of kind) i no_total }
-{
-    let form = kind.form;
-    match form {
-        Form::EnrolmentRequest => enrolment_total(i),
-        Form::EnrolmentResult => enrolment_total(i),
-        Form::DebitRequest => debit_request_total(i),
-        Form::DebitResult => debit_result_total(i),
-        Form::BankEnrolment => enrolment_total(i),
+    match kind.form {
+        Form::EnrolmentRequest | Form::EnrolmentResult | Form::BankEnrolment => &ENROLMENT_TOTALS,
+        Form::DebitRequest => &DEBIT_REQUEST_TOTALS,
+        Form::DebitResult => &DEBIT_RESULT_TOTALS,
     }
 }

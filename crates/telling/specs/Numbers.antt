@@ -1,18 +1,16 @@
 -- Answers as numbers: side, number, record, item, code; then what storing, two results, an outcome, a step or a part says.
 use Rattle.std.specs.Prelude.{ℕ, List, [], ◌∷◌, ◌++◌}
 use Rattle.answers.specs.declared.told.Answer.{Answer}
-use Rattle.answers.specs.declared.told.Stored.{Stored}
-use Rattle.answers.specs.declared.told.Story.{Story}
-use Rattle.answers.specs.declared.lying.Lies.{Lies}
+use Rattle.answers.specs.Storing.{Stored}
+use Rattle.answers.specs.OfTwo.{Story}
+use Rattle.answers.specs.Lying.{Lies, case_of, first_of, size_of}
 use Rattle.answers.specs.declared.of_day.DayAnswer.{DayAnswer}
-use Rattle.answers.specs.declared.of_day.DayTold.{DayTold}
-use Rattle.answers.specs.declared.of_day.DayShown.{DayShown}
-use Rattle.answers.specs.Lying.{case_of, first_of, size_of}
+use Rattle.answers.specs.OfDay.{DayTold, DayShown}
 use Rattle.outcomes.specs.declared.cases.Told.{Told}
 use Rattle.outcomes.specs.Outcomes.{numbers_of}
-use Rattle.walker.specs.declared.walking.Walked.{Walked}
+use Rattle.walker.specs.Steps.{Walked}
 use Rattle.walker.specs.Walks.{three_of}
-use Rattle.evidence.specs.declared.lying.Shown.{Shown}
+use Rattle.evidence.specs.Lying.{Shown}
 
 abbrev pub five : Answer → List ℕ
 five a = a.side ∷ a.number ∷ a.rec ∷ a.item ∷ a.code ∷ []

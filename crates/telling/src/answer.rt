@@ -1,8 +1,12 @@
 // An answer, one that comes with bytes in lent room, and one about two results.
 ghost use Rattle.std.specs.Prelude.{◌≡◌};
+ghost use Rattle.answers.specs.OfTwo.{story_by};
+ghost use Rattle.answers.specs.Storing.{stored_by};
 ghost use Rattle.telling.specs.Numbers.{five, six, story_seven};
 
-use answers::told::{Answer, Stored, Story};
+use answers::of_two::OfResults;
+use answers::refusing::Refusal;
+use answers::told::Answer;
 
 // Stores side, number, record, item and code, and returns the number.
 pub fn tell(told: Answer, answer: &mut [u64; 5]) -> u64
@@ -14,36 +18,35 @@ pub fn tell(told: Answer, answer: &mut [u64; 5]) -> u64
 }
 
 // The same with how many bytes were stored.
-pub fn tell_stored(stored: Stored, answer: &mut [u64; 6]) -> u64
-    ensures value { result ≡ stored.answer.number }
-    ensures answer_after { answer.new ≡ six stored }
+pub fn tell_stored(stored: Result<usize, Refusal>, answer: &mut [u64; 6]) -> u64
+    ensures value { result ≡ (stored_by stored).answer.number }
+    ensures answer_after { answer.new ≡ six (stored_by stored) }
 {
-    let said = stored.answer;
-    *answer = [
-        said.side,
-        said.number,
-        said.rec,
-        said.item,
-        said.code,
-        stored.size as u64,
-    ];
+    let said = Answer::of(stored);
+    let size = stored.unwrap_or(0) as u64;
+    *answer = [said.side, said.number, said.rec, said.item, said.code, size];
     said.number
 }
 
 // The same with which of two results, and which request.
-pub fn tell_story(told: Story, answer: &mut [u64; 7]) -> u64
-    ensures value { result ≡ told.answer.number }
-    ensures answer_after { answer.new ≡ story_seven told }
+pub fn tell_story(told: Result<Option<u32>, OfResults>, answer: &mut [u64; 7]) -> u64
+    ensures value { result ≡ (story_by told).answer.number }
+    ensures answer_after { answer.new ≡ story_seven (story_by told) }
 {
-    let said = told.answer;
+    let (said, which, request) = match told {
+        Ok(Some(i)) => (Answer::ACCEPTED, 0, u64::from(i) + 1),
+        Ok(None) => (Answer::ACCEPTED, 0, 0),
+        Err(OfResults::WithFirst(refusal)) => (Answer::from(refusal), 1, 0),
+        Err(OfResults::WithSecond(refusal)) => (Answer::from(refusal), 2, 0),
+    };
     *answer = [
         said.side,
         said.number,
         said.rec,
         said.item,
         said.code,
-        told.which,
-        told.request,
+        which,
+        request,
     ];
     said.number
 }

@@ -1,17 +1,20 @@
 // What is told of a day file: its own number, which body, and that body's five.
 ghost use Rattle.std.specs.Prelude.{◌≡◌};
+ghost use Rattle.answers.specs.OfDay.{counted_by, shown_by};
 ghost use Rattle.telling.specs.Numbers.{day_eight, day_ten};
 
 use crate::part;
-use answers::of_day::{DayShown, DayTold};
+use answers::lying::Part;
+use answers::of_day::{DayAnswer, OfDay};
 
 // Stores the seven, then how many bodies or bytes, and returns the day's number.
-pub fn tell_day(told: DayTold, answer: &mut [u64; 8]) -> u64
-    ensures value { result ≡ told.answer.number }
-    ensures answer_after { answer.new ≡ day_eight told }
+pub fn tell_day(told: Result<usize, OfDay>, answer: &mut [u64; 8]) -> u64
+    ensures value { result ≡ (counted_by told).answer.number }
+    ensures answer_after { answer.new ≡ day_eight (counted_by told) }
 {
-    let said = told.answer;
+    let said = DayAnswer::of(told);
     let own = said.answer;
+    let count = told.unwrap_or(0) as u64;
     *answer = [
         said.number,
         said.body,
@@ -20,20 +23,19 @@ pub fn tell_day(told: DayTold, answer: &mut [u64; 8]) -> u64
         own.rec,
         own.item,
         own.code,
-        told.count as u64,
+        count,
     ];
     said.number
 }
 
 // Stores the seven, then case, first byte and length, and returns the day's number.
-pub fn tell_body(shown: DayShown, answer: &mut [u64; 10]) -> u64
-    ensures value { result ≡ shown.answer.number }
-    ensures answer_after { answer.new ≡ day_ten shown }
+pub fn tell_body(shown: Result<Option<Part>, OfDay>, answer: &mut [u64; 10]) -> u64
+    ensures value { result ≡ (shown_by shown).answer.number }
+    ensures answer_after { answer.new ≡ day_ten (shown_by shown) }
 {
-    let said = shown.answer;
+    let said = DayAnswer::of(shown);
     let own = said.answer;
-    let lies = shown.lies;
-    let three = part::three(lies);
+    let [case, start, size] = part::three(shown);
     *answer = [
         said.number,
         said.body,
@@ -42,9 +44,9 @@ pub fn tell_body(shown: DayShown, answer: &mut [u64; 10]) -> u64
         own.rec,
         own.item,
         own.code,
-        three[0],
-        three[1],
-        three[2],
+        case,
+        start,
+        size,
     ];
     said.number
 }

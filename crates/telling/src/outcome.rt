@@ -11,19 +11,18 @@ pub fn tell_outcome(told: Told, answer: &mut [u64; 10]) -> u64
     ensures answer_after { answer.new ≡ ten told }
 {
     let said = told.answer;
-    let outcome = told.outcome;
-    let numbers = cases::numbers(outcome);
+    let [case, taken, not_taken, code, maker] = cases::numbers(told.outcome);
     *answer = [
         said.side,
         said.number,
         said.rec,
         said.item,
         said.code,
-        numbers[0],
-        numbers[1],
-        numbers[2],
-        numbers[3],
-        numbers[4],
+        case,
+        taken,
+        not_taken,
+        code,
+        maker,
     ];
     said.number
 }

@@ -1,37 +1,39 @@
 // An answer with a step through the records.
 ghost use Rattle.std.specs.Prelude.{◌≡◌};
-ghost use Rattle.walker.specs.Walks.{three_of};
+ghost use Rattle.walker.specs.Walks.{three_of, walked_by};
 ghost use Rattle.telling.specs.Numbers.{eight};
 
-use walker::walking::{Step, Walked};
+use answers::refusing::Refusal;
+use answers::told::Answer;
+use walker::walking::Record;
 
-fn three(step: Step) -> [u64; 3]
-    ensures { result ≡ three_of step }
+// The case, and the record's first byte and length.
+fn three(walked: Result<Option<Record>, Refusal>) -> [u64; 3]
+    ensures { result ≡ three_of (walked_by walked).step }
 {
-    match step {
-        Step::None => [0, 0, 0],
-        Step::Record(_, start, length) => [1, start, length],
-        Step::End => [2, 0, 0],
+    match walked {
+        Err(_) => [0, 0, 0],
+        Ok(Some(rec)) => [1, rec.start, rec.size],
+        Ok(None) => [2, 0, 0],
     }
 }
 
 // Stores the five, then case, first byte and length, and returns the number.
-pub fn tell_step(walked: Walked, answer: &mut [u64; 8]) -> u64
-    ensures value { result ≡ walked.answer.number }
-    ensures answer_after { answer.new ≡ eight walked }
+pub fn tell_step(walked: Result<Option<Record>, Refusal>, answer: &mut [u64; 8]) -> u64
+    ensures value { result ≡ (walked_by walked).answer.number }
+    ensures answer_after { answer.new ≡ eight (walked_by walked) }
 {
-    let said = walked.answer;
-    let step = walked.step;
-    let three = three(step);
+    let said = Answer::of(walked);
+    let [case, start, size] = three(walked);
     *answer = [
         said.side,
         said.number,
         said.rec,
         said.item,
         said.code,
-        three[0],
-        three[1],
-        three[2],
+        case,
+        start,
+        size,
     ];
     said.number
 }

@@ -1,4 +1,6 @@
-// The character classes, all from one loop: how many bytes in front a set takes.
+// The character classes, all from one search: how many bytes in front a set takes.
+#![tactic(auto, unfolding(crate::specs::Characters::within, crate::specs::Characters::letter, crate::specs::Characters::takes, crate::specs::Characters::each, crate::specs::Characters::spaces, crate::specs::Characters::code_text, crate::specs::Characters::filled, crate::specs::Characters::one_byte))]
+
 ghost use Rattle.std.specs.Prelude.{◌≡◌, ◌≤◌, length, drop};
 ghost use Rattle.text.specs.declared.characters.Set.TheVariants.{OneByte};
 ghost use Rattle.text.specs.Characters.{within, letter, takes, front, each, spaces, code_text, filled, one_byte};
@@ -31,10 +33,7 @@ fn letter(b: u8) -> bool
 fn one_byte_character(b: u8) -> bool
     ensures { result ≡ takes OneByte b }
 {
-    if letter(b) {
-        return true;
-    }
-    within(b'0', b'9', b) || b == b' '
+    letter(b) || within(b'0', b'9', b) || b == b' '
 }
 
 fn takes(set: Set, b: u8) -> bool
@@ -52,14 +51,7 @@ fn front(set: Set, s: &[u8]) -> usize
     ensures value { result ≡ front set s.now }
     ensures upper_bound { result ≤ length s.now }
 {
-    let mut i = 0;
-    while i < s.len() {
-        if !takes(set, s[i]) {
-            return i;
-        }
-        i += 1;
-    }
-    i
+    s.iter().position(|b| !takes(set, *b)).unwrap_or(s.len())
 }
 
 // Every byte of s is one from low to high.
@@ -88,10 +80,7 @@ pub fn filled(s: &[u8]) -> bool
     ensures { result ≡ filled s.now }
 {
     let n = front(Set::Code, s);
-    if n == 0 {
-        return false;
-    }
-    spaces_from(s, n)
+    n != 0 && spaces_from(s, n)
 }
 
 // Every byte of s is a one-byte character: a letter of either case, a digit or a space.

@@ -9,18 +9,14 @@ pub fn part(s: &[u8], start: usize, size: usize) -> &[u8]
     ensures result_value { result.now ≡ part start size s.now }
     ensures result_len { length result.now ≡ size }
 {
-    let end = start + size;
-    &s[start..end]
+    &s[start..start + size]
 }
 
 // What s holds from a place on; nothing past its end.
 pub fn rest(s: &[u8], from: usize) -> &[u8]
     ensures { result.now ≡ drop from s.now }
 {
-    if from <= s.len() {
-        return &s[from..];
-    }
-    &s[s.len()..]
+    &s[from.min(s.len())..]
 }
 
 // The byte at a place, or 0 past the end.
@@ -28,37 +24,21 @@ pub fn byte(s: &[u8], at: usize) -> u8
     ensures value { result ≡ get_or s.now at 0 }
     ensures upper_bound { result < 256 }
 {
-    if at < s.len() {
-        return s[at];
-    }
-    0
+    s.get(at).copied().unwrap_or(0)
 }
 
 // The two slices hold the same bytes.
 pub fn same(a: &[u8], b: &[u8]) -> bool
     ensures { result ≡ same a.now b.now }
 {
-    if a.len() != b.len() {
-        return false;
-    }
-    let mut i = 0;
-    while i < a.len() {
-        if a[i] != b[i] {
-            return false;
-        }
-        i += 1;
-    }
-    true
+    a == b
 }
 
 // s begins with x.
 pub fn begins(x: &[u8], s: &[u8]) -> bool
     ensures { result ≡ begins x.now s.now }
 {
-    if s.len() < x.len() {
-        return false;
-    }
-    same(x, part(s, 0, x.len()))
+    s.starts_with(x)
 }
 
 // Stores bytes at a place of a lent slice.

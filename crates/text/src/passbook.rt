@@ -1,4 +1,6 @@
 // What a passbook shows of a debit, as a request gives it: sixteen bytes in one of three forms.
+#![tactic(auto, unfolding(crate::specs::Characters::two_byte, crate::specs::Passbook::setting, crate::specs::Passbook::two_byte_form, crate::specs::Passbook::one_byte_form, crate::specs::Passbook::mixed_with, crate::specs::Passbook::mixed_form, crate::specs::Passbook::passbook_form))]
+
 ghost use Rattle.std.specs.Prelude.{◌≡◌, ◌≤◌, length};
 ghost use Rattle.text.specs.Passbook.{setting, two_byte_form, one_byte_form, mixed_form, passbook_form};
 
@@ -13,14 +15,10 @@ fn setting(mark: &[u8], n: usize, m: usize, s: &[u8]) -> bool
 {
     let start = mark.len();
     let end = start + 2 * n;
-    if s.len() != end + m {
-        return false;
-    }
-    if parts::begins(mark, s) {
-        return characters::each(0xA1, 0xFE, parts::part(s, start, 2 * n))
-            && characters::one_byte(parts::rest(s, end));
-    }
-    false
+    s.len() == end + m
+        && parts::begins(mark, s)
+        && characters::each(0xA1, 0xFE, parts::part(s, start, 2 * n))
+        && characters::one_byte(parts::rest(s, end))
 }
 
 fn two_byte_form(s: &[u8]) -> bool
@@ -51,8 +49,5 @@ fn mixed_form(s: &[u8]) -> bool
 pub fn passbook_form(s: &[u8]) -> bool
     ensures { result ≡ passbook_form s.now }
 {
-    if two_byte_form(s) {
-        return true;
-    }
-    one_byte_form(s) || mixed_form(s)
+    two_byte_form(s) || one_byte_form(s) || mixed_form(s)
 }

@@ -15,12 +15,11 @@ use Rattle.laws.proofs.Leasts.{Least, least-is, least-none, number-here, number-
 use Rattle.kinds.specs.declared.of_files.Kind.{Kind}
 use Rattle.kinds.specs.declared.of_files.Own.{Own}
 use Rattle.kinds.specs.declared.of_pairs.PairKind.{PairKind}
-use Rattle.kinds.specs.declared.of_pairs.PairNamed.{PairNamed}
-use Rattle.kinds.specs.declared.of_pairs.PairNamed.TheVariants.{Is, Unknown}
+use Rattle.std.specs.Prelude.{Option, Some, None}
 use Rattle.kinds.specs.declared.of_pairs.Family.{Family}
 use Rattle.kinds.specs.declared.of_pairs.Family.TheVariants.{Enrolment, Debit}
 use Rattle.kinds.specs.Pairs.{pair_kind, request_kind, result_kind, pair_of}
-use Rattle.answers.specs.declared.told.Story.{Story}
+use Rattle.answers.specs.OfTwo.{Story}
 use Rattle.answers.specs.Answers.{accepted, refuses}
 use Rattle.answers.proofs.Refusals.{refuses-zero, refuses-other}
 use Rattle.records.specs.Records.{data_of}
@@ -68,7 +67,7 @@ module _ (a b : Own) (q r s : List ℕ) where
   unfolding first_other
   zero-alike z i h = alike_at i (⊎_elim (λ e. first.before i (rw e h)) (λ l. absurd (omega (arith, sym (number-here n (least (other_at debit q r s) n) l) ∙ z))) (eq-or-lt_of_le first.within))
 
-  module _ (number : ℕ) (named : pair_of number ≡ Is debit) where
+  module _ (number : ℕ) (named : pair_of number ≡ Some debit) where
     -- where both pairs are accepted
     module _ (good : (pair_by debit q r true).number ≡ 0) (fine : (pair_by debit q s true).number ≡ 0) where
       says_both : Says number q r s (story accepted 0 (first_other debit q r s))
@@ -148,14 +147,14 @@ module _ (a b : Own) (q r s : List ℕ) where
               let y = (gives-pair a b q s h).1 i l in
               ne (x.0 ∙ (rw same (sym y.0)), x.1 ∙ (same ∙ sym y.1))
 
-says-in : (number : ℕ) (f : Family) (a b : Own) → pair_of number ≡ Is (pair_kind f a b) → (q r s : List ℕ) → Says number q r s (story_in f (pair_kind f a b) q r s)
+says-in : (number : ℕ) (f : Family) (a b : Own) → pair_of number ≡ Some (pair_kind f a b) → (q r s : List ℕ) → Says number q r s (story_in f (pair_kind f a b) q r s)
 says-in number Enrolment a b e q r s = Says.enrolment a b e
 says-in number Debit a b e q r s = says-debit a b q r s number e
 
 module _ (number : ℕ) (q r s : List ℕ) where
-  says-named : (named : PairNamed) → pair_of number ≡ named → Says number q r s (story_named named q r s)
-  says-named (Is p) e = says-in number p.family p.request p.result e q r s
-  says-named Unknown e = Says.unknown e
+  says-named : (named : Option PairKind) → pair_of number ≡ named → Says number q r s (story_named named q r s)
+  says-named (Some p) e = says-in number p.family p.request p.result e q r s
+  says-named None e = Says.unknown e
 
   -- *The first*: every answer, by its case; the request that is named is the first in which the lists differ
   pub story-says : Says number q r s (story_told number q r s)

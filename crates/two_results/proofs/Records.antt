@@ -24,8 +24,7 @@ use Rattle.records.specs.Records.{data_of}
 use Rattle.reader.specs.Meets.{Meets}
 use Rattle.reader.proofs.Accepted.{data-row}
 use Rattle.reader.proofs.Cut.{record-length}
-use Rattle.agreement.specs.declared.items.Compared.TheVariants.{Records}
-use Rattle.agreement.specs.Items.{compared_of}
+use Rattle.agreement.specs.Items.{Records, compared_of}
 use Rattle.agreement.specs.Same.{result_at, SameItem}
 use Rattle.agreement.specs.Possible.{PossibleIn}
 use Rattle.pair.specs.Assigned.{Met}

@@ -24,8 +24,7 @@ use Rattle.tables.specs.Totals.{no_total, debit_result_totals, totals_of}
 use Rattle.layout.specs.Items.{amount_of, mark_of}
 use Rattle.records.specs.Records.{record_of, data_of}
 use Rattle.records.specs.Quantities.{worth, worth_at, quantity_of}
-use Rattle.agreement.specs.declared.items.Compared.TheVariants.{Records}
-use Rattle.agreement.specs.Items.{compared_of}
+use Rattle.agreement.specs.Items.{Records, compared_of}
 use Rattle.agreement.specs.Same.{SameItem, Agree}
 use Rattle.agreement.specs.Possible.{PossibleIn}
 use Rattle.agreement.proofs.Places.{compared-inside}

@@ -3,8 +3,13 @@
 use Prim.Native.Nat.{ℕ}
 use mathlib.Core.Bool.{true}
 use mathlib.Core.List.{List}
-use mathlib.Core.Path.{◌≡◌, ap}
+use mathlib.Core.Path.{◌≡◌, ◌∙◌, ap}
+use Rattle.answers.specs.declared.told.Answer.{Answer}
+use Rattle.answers.specs.declared.of_two.OfResults.{OfResults}
+use Rattle.answers.specs.declared.of_two.OfResults.TheVariants.{WithFirst, WithSecond}
 use Rattle.answers.specs.Answers.{accepted}
+use Rattle.answers.specs.OfTwo.{Story, refused_story}
+use Rattle.answers.proofs.Tellings.{two-refuses}
 use Rattle.answers.proofs.Refusals.{refuses-is, refuses-not}
 use Rattle.reader.proofs.Exact.{read-exact}
 use Rattle.kinds.specs.declared.of_pairs.PairKind.{PairKind}
@@ -21,6 +26,11 @@ pub pair_read : (p : PairKind) (q r : List ℕ) → (pair_by p q r true).number 
 pair_read p q r e =
     let known = pair-known p q r true e in
     record { request = (read-exact (request_kind p) q).1 known.request; result = (read-exact (result_kind p) r).1 known.result }
+
+-- a refusal of a pair is told of no accepted one
+pub bad-story : (x : OfResults) (a : Answer) (which : ℕ) → refused_story x ≡ story a which 0 → a.number ≡ 0 → ⊥
+bad-story (WithFirst t) a which e z = two-refuses t (ap (λ (s : Story). s.answer.number) e ∙ z)
+bad-story (WithSecond t) a which e z = two-refuses t (ap (λ (s : Story). s.answer.number) e ∙ z)
 
 module _ (p : PairKind) (q r s : List ℕ) where
   pub story-debit : p.family ≡ Debit → story_in p.family p q r s ≡ story_as p q r s

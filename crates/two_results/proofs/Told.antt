@@ -15,7 +15,7 @@ use Rattle.laws.proofs.Tabs.{tab-within}
 use Rattle.kinds.specs.declared.of_files.Kind.{Kind}
 use Rattle.kinds.specs.declared.of_files.Own.{Own}
 use Rattle.kinds.specs.declared.of_pairs.PairKind.{PairKind}
-use Rattle.kinds.specs.declared.of_pairs.PairNamed.TheVariants.{Is}
+use Rattle.std.specs.Prelude.{Some}
 use Rattle.kinds.specs.declared.of_pairs.Family.TheVariants.{Debit}
 use Rattle.kinds.specs.Pairs.{pair_kind, request_kind, result_kind, pair_of}
 use Rattle.answers.proofs.Refusals.{number_of}
@@ -92,7 +92,7 @@ module _ (a b : Own) where
 
   -- *One story* of what pairing leaves in two lent lists, whatever they held
   pub one-story-told :
-      (number : ℕ) → pair_of number ≡ Is debit → (q r s taken notTaken : List ℕ) → Bytes r → Bytes s →
+      (number : ℕ) → pair_of number ≡ Some debit → (q r s taken notTaken : List ℕ) → Bytes r → Bytes s →
       (pair_told number q r (length taken) (length notTaken)).number ≡ 0 → (pair_told number q s (length taken) (length notTaken)).number ≡ 0 →
       ((taken_after number q r (length taken) (length notTaken) taken ≡ taken_after number q s (length taken) (length notTaken) taken) ×
       (not_taken_after number q r (length taken) (length notTaken) notTaken ≡ not_taken_after number q s (length taken) (length notTaken) notTaken)) ↔

@@ -1,14 +1,12 @@
 -- Two results of one debit request: 1; the pair with the first, the pair with the second; then the first request in which the lists differ.
-use Rattle.std.specs.Prelude.{ℕ, Bool, true, cond, not, ◌&&◌, List, eqb}
+use Rattle.std.specs.Prelude.{ℕ, Bool, true, cond, not, ◌&&◌, List, eqb, Option, Some, None}
 use Rattle.laws.specs.Least.{least, number_in}
 use Rattle.kinds.specs.declared.of_pairs.PairKind.{PairKind}
-use Rattle.kinds.specs.declared.of_pairs.PairNamed.{PairNamed}
-use Rattle.kinds.specs.declared.of_pairs.PairNamed.TheVariants.{Is, Unknown}
 use Rattle.kinds.specs.declared.of_pairs.Family.{Family}
 use Rattle.kinds.specs.declared.of_pairs.Family.TheVariants.{Enrolment, Debit}
 use Rattle.kinds.specs.Pairs.{request_kind, pair_of}
 use Rattle.answers.specs.declared.told.Answer.{Answer}
-use Rattle.answers.specs.declared.told.Story.{Story}
+use Rattle.answers.specs.OfTwo.{Story}
 use Rattle.answers.specs.Answers.{accepted, refused, refuses}
 use Rattle.records.specs.Records.{data_of}
 use Rattle.matching.specs.Amounts.{taken_at, not_taken_at}
@@ -42,9 +40,9 @@ abbrev pub story_in : Family → PairKind → List ℕ → List ℕ → List ℕ
 story_in Enrolment p q r s = no_debit
 story_in Debit p q r s = story_as p q r s
 
-abbrev pub story_named : PairNamed → List ℕ → List ℕ → List ℕ → Story
-story_named (Is p) q r s = story_in p.family p q r s
-story_named Unknown q r s = no_debit
+abbrev pub story_named : Option PairKind → List ℕ → List ℕ → List ℕ → Story
+story_named (Some p) q r s = story_in p.family p q r s
+story_named None q r s = no_debit
 
 -- for any number and any bytes
 unfoldable pub story_told : ℕ → List ℕ → List ℕ → List ℕ → Story

@@ -2,3 +2,4 @@
 pub mod Steps
 pub mod Records
 pub mod Stepped
+pub mod OneWalk

@@ -2,21 +2,25 @@
 -- Assumes nothing.
 use Prim.Native.Nat.{ℕ, ◌+◌, ◌*◌, ◌≤◌, ◌<◌}
 use mathlib.Core.List.{List}
-use mathlib.Core.Path.{◌≡◌, refl, ap, ◌∙◌}
+use mathlib.Core.Path.{◌≡◌, refl, sym, ap, ◌∙◌}
 use native.Mathlib.Omega.{arith}
 use lib.ListN.{length}
 use Rattle.laws.specs.Part.{part}
 use Rattle.kinds.specs.declared.of_files.Kind.{Kind}
-use Rattle.kinds.specs.declared.of_files.Named.TheVariants.{Is}
+use Rattle.std.specs.Prelude.{Some, Result, Ok, Err}
 use Rattle.kinds.specs.Kinds.{fixed_of, kind_of}
 use Rattle.answers.specs.declared.told.Answer.{Answer}
+use Rattle.answers.specs.declared.refusing.Refusal.{Refusal}
 use Rattle.answers.specs.Answers.{accepted}
+use Rattle.answers.specs.Refusing.{told_by, answer_of}
+use Rattle.answers.proofs.Tellings.{told-refuses, bad}
 use Rattle.records.specs.Records.{record_at, record_of, data_of}
 use Rattle.reader.specs.Reading.{read_as, read_of}
 use Rattle.reader.proofs.Accepted.{read_named_lem}
 use Rattle.records.proofs.Places.{record-inside}
-use Rattle.walker.specs.declared.walking.Step.TheVariants.{None, Record, End}
-use Rattle.walker.specs.Walks.{step_of, walked, hand_of, walk_of}
+use Rattle.walker.specs.Steps.{Walked, None, Record, End}
+use Rattle.walker.specs.Walks.{named_by, step_of, walked, hand_of, walk_of}
+use Rattle.walker.specs.Walkers.{handed}
 use Rattle.walker.proofs.Steps.{step-record, step_end, hand-refused, hand-good}
 
 -- *Refused*: the reader's answer, at every place
@@ -24,7 +28,7 @@ pub walk_refused : (kind : ℕ) (s : List ℕ) (i : ℕ) → ((read_of kind s).n
 unfolding walk_of
 walk_refused kind s i ne = hand-refused s i kind (read_of kind s) ne
 
-module _ (kind : ℕ) (k : Kind) (named : kind_of kind ≡ Is k) where
+module _ (kind : ℕ) (k : Kind) (named : kind_of kind ≡ Some k) where
   -- once the reader has accepted, the step is the kind's
   pub hand-step : (s : List ℕ) (i : ℕ) (answer : Answer) → answer.number ≡ 0 → hand_of s i kind answer ≡ walked answer (step_of k s i)
   hand-step s i answer z = rw (hand-good s i kind answer z, named)
@@ -59,3 +63,16 @@ module _ (kind : ℕ) (k : Kind) (named : kind_of kind ≡ Is k) where
     -- *End*
     pub walk_end : (i : ℕ) → data_of k s ≤ i → walk_of kind s i ≡ walked accepted End
     walk_end i h = walk_step i ∙ ap (walked accepted) (step_end k s i h)
+
+-- what the reader's answer and a kind hand out is what the kind, or the refusal that is kept, hands out
+pub handed-is : (kind : ℕ) (s : List ℕ) (i : ℕ) (known : Result Kind Refusal) → answer_of known ≡ read_of kind s → named_by kind known → handed known s i ≡ walk_of kind s i
+unfolding walk_of
+handed-is kind s i (Ok k) told named = rw (← told) (sym (hand-step kind k named s i accepted refl))
+handed-is kind s i (Err r) told named = rw (← told) (sym (hand-refused s i kind (told_by r) (told-refuses r)))
+
+-- what is refused at one place is refused at every other
+pub refused-ever : (kind : ℕ) (s : List ℕ) (r : Refusal) (i j : ℕ) → walked (told_by r) None ≡ walk_of kind s i → walked (told_by r) None ≡ walk_of kind s j
+unfolding walk_of hand_of
+refused-ever kind s r i j e =
+    let a : told_by r ≡ read_of kind s = ap (λ (w : Walked). w.answer) e in
+    ap (λ x. walked x None) a ∙ sym (walk_refused kind s j (bad r (read_of kind s) a))

@@ -13,19 +13,19 @@ use native.Mathlib.Omega.{arith}
 use denote.Ref.{Bor}
 use Rattle.laws.proofs.Bools.{either}
 use Rattle.kinds.specs.declared.of_files.Kind.{Kind}
-use Rattle.kinds.specs.declared.of_files.Named.TheVariants.{Is}
+use Rattle.std.specs.Prelude.{Some}
 use Rattle.kinds.specs.Kinds.{kind_of}
 use Rattle.answers.specs.Answers.{refuses}
 use Rattle.answers.proofs.Refusals.{refuses-zero, refuses-other}
 use Rattle.records.specs.Records.{data_of}
 use Rattle.reader.specs.Reading.{read_of}
 use Rattle.reader.proofs.Accepted.{read_known}
-use Rattle.walker.specs.declared.walking.Walked.{Walked}
+use Rattle.walker.specs.Steps.{Walked}
 use Rattle.walker.specs.declared.walker.Walker.{Walker}
 use Rattle.walker.specs.Walks.{step_of, walked, hand_of, walk_of, place_after}
-use Rattle.walker.specs.Walkers.{open_on, handed_by, moved_on, stepped}
+use Rattle.walker.specs.Walkers.{open_on, handed, handed_by, moved_on, stepped}
 use Rattle.walker.proofs.Steps.{step-record, step_end, hand-refused}
-use Rattle.walker.proofs.Records.{walk_refused, hand-step}
+use Rattle.walker.proofs.Records.{walk_refused, hand-step, handed-is}
 
 -- no step, and one more
 pub stepped-none : (w : Walker) → stepped w 0 ≡ w
@@ -38,7 +38,7 @@ stepped-more w i = rw (add-one i)
 
 -- the same walker at another place
 at_place : Walker → ℕ → Walker
-at_place w p = record { file = w.file; place = p; kind = w.kind; answer = w.answer }
+at_place w p = record { file = w.file; place = p; kind = w.kind }
 
 -- a step changes the place only
 only-place : (w : Walker) (i : ℕ) → stepped w i ≡ at_place w (stepped w i).place
@@ -46,16 +46,18 @@ unfolding stepped at_place
 only-place w zero = refl
 only-place w (suc i) = ap moved_on (only-place w i) ∙ ap (at_place w) (ap (λ (v : Walker). (moved_on v).place) (sym (only-place w i)))
 
-module _ (kind : ℕ) (f : Bor (List ℕ)) where
+module _ (kind : ℕ) (f : Bor (List ℕ)) (w : Walker) (o : open_on kind f w) where
   -- the walker after i steps from its opening
   abbrev pub after : ℕ → Walker
-  after i = stepped (open_on kind f) i
+  after i = stepped w i
 
   hands : (i : ℕ) → handed_by (after i) ≡ hand_of f.now (after i).place kind (read_of kind f.now)
-  unfolding at_place
-  hands i = ap handed_by (only-place (open_on kind f) i)
+  unfolding at_place walk_of
+  hands i =
+      ap handed_by (only-place w i) ∙
+      (ap (λ (g : Bor (List ℕ)). handed w.kind g.now (after i).place) o.file ∙ handed-is kind f.now (after i).place w.kind o.told o.named)
 
-  module _ (k : Kind) (named : kind_of kind ≡ Is k) (good : (read_of kind f.now).number ≡ 0) where
+  module _ (k : Kind) (named : kind_of kind ≡ Some k) (good : (read_of kind f.now).number ≡ 0) where
     abbrev n : ℕ
     n = data_of k f.now
 
@@ -64,16 +66,16 @@ module _ (kind : ℕ) (f : Bor (List ℕ)) where
 
     moves : (i : ℕ) → (after (suc i)).place ≡ place_after (step_of k f.now (after i).place) (after i).place
     unfolding stepped
-    moves i = ap (λ (w : Walked). place_after w.step (after i).place) (hands-step i)
+    moves i = ap (λ (v : Walked). place_after v.step (after i).place) (hands-step i)
 
     place-below : (i : ℕ) → i ≤ n → (after i).place ≡ i
     unfolding stepped
-    place-below zero h = refl
+    place-below zero h = o.place
     place-below (suc i) h = moves i ∙ rw (place-below i (omega arith), step-record k f.now i (omega arith)) (add-one i)
 
     place-past : (i : ℕ) → n ≤ i → (after i).place ≡ n
     unfolding stepped
-    place-past zero h = omega arith
+    place-past zero h = omega (arith, o.place)
     place-past (suc i) h = ⊎_elim more (last (place-past i)) (either (ltb i n))
       where
         more : ltb i n ≡ true → (after (suc i)).place ≡ n

@@ -9,7 +9,7 @@ use Rattle.kinds.specs.Kinds.{fixed_of, kind_of}
 use Rattle.answers.specs.declared.told.Answer.{Answer}
 use Rattle.answers.proofs.Refusals.{refuses-not, refuses-is}
 use Rattle.records.specs.Records.{data_of}
-use Rattle.walker.specs.declared.walking.Step.TheVariants.{None, End}
+use Rattle.walker.specs.Steps.{None, End}
 use Rattle.walker.specs.Walks.{record_step, step_in, step_of, step_named, walked, hand_of}
 
 module _ (kind : Kind) (s : List ℕ) (k : ℕ) where

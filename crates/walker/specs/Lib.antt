@@ -1,3 +1,4 @@
 -- Record after record of one file.
+pub mod Steps
 pub mod Walks
 pub mod Walkers

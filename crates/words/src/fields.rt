@@ -1,4 +1,6 @@
 // What stands before, after and between the bytes that part a text.
+#![tactic(auto, unfolding(crate::specs::Fields::index_of, crate::specs::Fields::past_of, crate::specs::Fields::head_by, crate::specs::Fields::tail_by, crate::specs::Fields::field_by, laws::specs::Part::part))]
+
 ghost use Rattle.std.specs.Prelude.{◌≡◌, ◌≤◌, ◌<◌, length};
 ghost use Rattle.words.specs.Fields.{index_of, past_of, head_by, tail_by, after_by, field_by};
 
@@ -9,12 +11,7 @@ fn before(b: u8, s: &[u8]) -> usize
     ensures value { result ≡ index_of b s.now }
     ensures upper_bound { result ≤ length s.now }
 {
-    for (i, x) in s.iter().enumerate() {
-        if *x == b {
-            return i;
-        }
-    }
-    s.len()
+    s.iter().position(|x| *x == b).unwrap_or(s.len())
 }
 
 // How many bytes of s end with the first b; all where there is none.
@@ -23,11 +20,7 @@ pub fn past(b: u8, s: &[u8]) -> usize
     ensures upper_bound { result ≤ length s.now }
     ensures result_nonzero { 0 < length s.now → 0 < result }
 {
-    let n = before(b, s);
-    if n < s.len() {
-        return n + 1;
-    }
-    n
+    (before(b, s) + 1).min(s.len())
 }
 
 // What stands before the first b; all where there is none.
@@ -49,11 +42,8 @@ pub fn after(n: usize, b: u8, s: &[u8]) -> &[u8]
     ensures { result.now ≡ after_by b s.now n }
 {
     let mut left = s;
-    let mut i = 0;
-    while i < n {
-        let next = past(b, left);
-        left = &left[next..];
-        i += 1;
+    for _ in 0..n {
+        left = tail(b, left);
     }
     left
 }

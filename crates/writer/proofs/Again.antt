@@ -9,7 +9,6 @@ use native.Mathlib.Omega.{arith}
 use borrow.Author.Tests.{leb-true, ltb-true, ltb-false}
 use lib.Dec.{leb, ltb}
 use lib.ListN.{length, get_or, drop}
-use lib.Seq.{ext_get_or}
 use Rattle.laws.specs.Part.{part}
 use Rattle.laws.proofs.Bools.{either, clash}
 use Rattle.laws.specs.Least.{least, further}
@@ -33,16 +32,14 @@ use Rattle.layout.proofs.Judged.{All-hold}
 use Rattle.laws.specs.Tabulate.{tabulate}
 use Rattle.builder.specs.Records.{given_item, header_fill, header_byte, header_built, front_fill, data_byte, data_built, total_is, total_for, trailer_fill, trailer_byte, trailer_built}
 use Rattle.writer.specs.Apart.{head_from}
-use Rattle.laws.proofs.Tabs.{tab-length, tab-at}
+use Rattle.laws.proofs.Tabs.{tab-list}
 use Rattle.writer.specs.Says.{Bytes}
 use Rattle.builder.proofs.Sizes.{body-size}
 use Rattle.writer.proofs.Held.{part-place, All, end, ◌also◌, all-every, Back, back_at, given_back, only-back, same_back, says_back, total-back, word_back}
 
 -- a list is what is tabulated, if it has these bytes
 pub tab-is : (f : ℕ → ℕ) (n : ℕ) (s : List ℕ) → length s ≡ n → ((j : ℕ) → j < n → f j ≡ get_or s j 0) → tabulate f n ≡ s
-tab-is f n s long same =
-    ext_get_or 0 (tabulate f n) s (tab-length f n ∙ sym long)
-    (λ j h. let l : j < n = rw (tab-length f n) at h in tab-at f n j l ∙ same j l)
+tab-is f n s long same = rw (← long) (tab-list f s (λ j h. same j (rw long at h)))
 
 -- the header
 module _ (k : Kind) (H : List ℕ) (bytes : Bytes H) (day : drop 2 (date_of H) ≡ name_day H) where

@@ -50,3 +50,12 @@ stored-front k f rec at b h =
     rw (zero-mul (fixed_of k).size, append_assoc (take at f) rec (drop (at + length rec) f))
     (part-within (take at f) (rec ++ drop (at + length rec) f) 0 (fixed_of k).size (rw (length-take-le at f h) (omega arith)) ∙
     part-take 0 (fixed_of k).size at f (omega arith) h)
+
+-- a record that is built from the one in front, and stored behind it: the one in front stays, and the record is there
+pub put-behind :
+    (k : Kind) (f new : List ℕ) (rec : List ℕ → List ℕ) (m at : ℕ) → new ≡ stored at (rec (take (fixed_of k).size f)) f →
+    at ≡ m * (fixed_of k).size → (fixed_of k).size ≤ at → at ≤ length f → ((header : List ℕ) → length (rec header) ≡ (fixed_of k).size) →
+    (record_of k new 0 ≡ record_of k f 0) × (record_of k new m ≡ rec (record_of k f 0))
+put-behind k f new rec m at put e b h long =
+    let header = take (fixed_of k).size f in
+    (rw put (stored-front k f (rec header) at b h), rw put (stored_there k f (rec header) m at e h (long header)) ∙ ap rec (front-take k f))

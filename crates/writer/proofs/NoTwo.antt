@@ -4,7 +4,7 @@ use Prim.Native.Nat.{ℕ}
 use mathlib.Core.List.{List}
 use mathlib.Core.Path.{◌≡◌}
 use Rattle.kinds.specs.declared.of_files.Kind.{Kind}
-use Rattle.kinds.specs.declared.of_files.Named.TheVariants.{Is}
+use Rattle.std.specs.Prelude.{Some}
 use Rattle.kinds.specs.Kinds.{kind_of}
 use Rattle.reader.specs.Meets.{Meets}
 use Rattle.reader.proofs.Exact.{read-exact}
@@ -34,7 +34,7 @@ module _ (h h' : Head) (bodies bodies' : List ℕ) (room room' : ℕ) where
 
   -- *No two*, of any kinds that numbers name
   pub no-two-kinds :
-      (m n : ℕ) (k l : Kind) → kind_of m ≡ Is k → kind_of n ≡ Is l →
+      (m n : ℕ) (k l : Kind) → kind_of m ≡ Some k → kind_of n ≡ Some l →
       (write_as k h bodies room).number ≡ 0 → (write_as l h' bodies' room').number ≡ 0 →
       file_of k h bodies ≡ file_of l h' bodies' → SameGiven k l h h' bodies bodies'
   no-two-kinds m n k l p q a b e =

@@ -16,7 +16,7 @@ use Rattle.laws.proofs.Joins.{sized-part, joined_same, joined-first, joined-more
 use Rattle.laws.proofs.Parts.{part_length, part_at}
 use Rattle.laws.proofs.Sums.{sum_same}
 use Rattle.kinds.specs.declared.of_files.Kind.{Kind}
-use Rattle.kinds.specs.declared.of_files.Named.TheVariants.{Is}
+use Rattle.std.specs.Prelude.{Some}
 use Rattle.kinds.specs.declared.of_files.Role.TheVariants.{Header, Data, Trailer}
 use Rattle.tables.specs.declared.totals.Quantity.{Quantity}
 use Rattle.kinds.specs.Kinds.{fixed_of, limit}
@@ -188,7 +188,7 @@ module _ (k : Kind) (s : List ℕ) (m : Meets k s) where
 
 -- *Read, written*: a request file that is read as accepted is, taken apart and written under the same number, the same file
 pub read-written :
-    (kind : ℕ) (k : Kind) → request_of kind ≡ Is k → (s room : List ℕ) → (read_of kind s).number ≡ 0 → Bytes s → length s ≤ length room →
+    (kind : ℕ) (k : Kind) → request_of kind ≡ Some k → (s room : List ℕ) → (read_of kind s).number ≡ 0 → Bytes s → length s ≤ length room →
     (write_of kind (head_in k s) (bodies_in k s) (length room) ≡ accepted) × (room_after kind (head_in k s) (bodies_in k s) room ≡ s ++ drop (length s) room)
 unfolding write_of room_after
 read-written kind k e s room z bytes h =

@@ -15,8 +15,7 @@ use Rattle.kinds.specs.declared.of_files.Kind.{Kind}
 use Rattle.kinds.specs.declared.of_files.Form.{Form}
 use Rattle.kinds.specs.declared.of_files.Form.TheVariants.{EnrolmentRequest, EnrolmentResult, DebitRequest, DebitResult, BankEnrolment}
 use Rattle.kinds.specs.declared.of_files.Own.{Own}
-use Rattle.kinds.specs.declared.of_files.Named.{Named}
-use Rattle.kinds.specs.declared.of_files.Named.TheVariants.{Is, Unknown}
+use Rattle.std.specs.Prelude.{Option, Some, None}
 use Rattle.tables.specs.declared.row.Row.{Row}
 use Rattle.tables.specs.declared.totals.Quantity.{Quantity}
 use Rattle.tables.specs.declared.totals.Quantity.TheVariants.{OfKind, Amounts}
@@ -197,16 +196,16 @@ module _ (o : Own) (h : Head) (bodies : List ℕ) (room : ℕ) where
 
 -- the same by the number of the kind
 module _ (number : ℕ) (h : Head) (bodies : List ℕ) (room : ℕ) where
-  six-in : (f : Form) (o : Own) → request_of number ≡ Is (kind f o) → (write_as (kind f o) h bodies room).number ≡ 6 → OnlyDebit number h bodies room
+  six-in : (f : Form) (o : Own) → request_of number ≡ Some (kind f o) → (write_as (kind f o) h bodies room).number ≡ 6 → OnlyDebit number h bodies room
   six-in EnrolmentRequest o e z = absurd (enrolment-never o h bodies room z)
   six-in EnrolmentResult o e z = absurd (clash refl (sym (request-written number (kind EnrolmentResult o) e)))
   six-in DebitRequest o e z = record { k = kind DebitRequest o; named = e; debit = refl; much = (sum-exact o h bodies room).0 z }
   six-in DebitResult o e z = absurd (clash refl (sym (request-written number (kind DebitResult o) e)))
   six-in BankEnrolment o e z = absurd (clash refl (sym (request-written number (kind BankEnrolment o) e)))
 
-  six-named : (n : Named) → request_of number ≡ n → (write_named n h bodies room).number ≡ 6 → OnlyDebit number h bodies room
-  six-named (Is k) e z = six-in k.form k.own e z
-  six-named Unknown e z = absurd (omega arith)
+  six-named : (n : Option Kind) → request_of number ≡ n → (write_named n h bodies room).number ≡ 6 → OnlyDebit number h bodies room
+  six-named (Some k) e z = six-in k.form k.own e z
+  six-named None e z = absurd (omega arith)
 
   place_in : (f : Form) (o : Own) → f ≡ DebitRequest → TooMuch (kind f o) h bodies room → write_as (kind f o) h bodies room ≡ refused_at 6 (body_count (kind f o) bodies + 1) 7 0x30303030
   place_in f o e = subst (λ (g : Form). TooMuch (kind g o) h bodies room → write_as (kind g o) h bodies room ≡ refused_at 6 (body_count (kind g o) bodies + 1) 7 0x30303030) (sym e) (sum-place o h bodies room)

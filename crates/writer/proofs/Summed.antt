@@ -2,19 +2,20 @@
 -- Assumes nothing.
 use Prim.Native.Nat.{ℕ, ◌+◌, ◌*◌, ◌≤◌, ◌<◌, ◌^◌}
 use mathlib.Core.Bool.{Bool, true, false, cond}
-use mathlib.Core.List.{List, [], ◌∷◌}
-use mathlib.Core.Path.{◌≡◌, refl, sym}
+use mathlib.Core.List.{List, [], ◌∷◌, ◌++◌}
+use mathlib.Core.Path.{◌≡◌, refl, sym, ◌∙◌, ap}
 use mathlib.Core.Logic.{⊎_elim}
 use native.Mathlib.Nat.{min-le_left}
 use native.Mathlib.Omega.{arith}
+use borrow.Author.Tests.{ltb-true, ltb-false}
 use lib.Dec.{ltb, eqb}
-use lib.ListN.{length, get_or, drop, length-take}
+use lib.ListN.{length, get_or, drop, length-take, length-drop, length-append}
 use Rattle.laws.specs.Part.{part}
 use Rattle.laws.specs.Sum.{sum}
 use Rattle.laws.specs.Tabulate.{tabulate}
 use Rattle.laws.proofs.Bools.{either}
 use Rattle.laws.proofs.Sums.{sum_more, sum_bound, sum_same, sum-zero}
-use Rattle.laws.proofs.Tabs.{tab-at, tab-same, tab-within}
+use Rattle.laws.proofs.Tabs.{tab-at, tab-same, tab-within, tab-length, tab-list, fill-at, fill-past}
 use Rattle.kinds.specs.declared.of_files.Kind.{Kind}
 use Rattle.kinds.specs.Kinds.{limit}
 use Rattle.tables.specs.declared.totals.Quantity.{Quantity}
@@ -46,6 +47,22 @@ worth-small Amounts rec = amount-small rec
 worth-small (Marked b) rec = if-small (eqb (mark_of rec) b) 1 (10 ^ 13) (omega arith)
 worth-small (AmountsMarked b) rec = if-small (eqb (mark_of rec) b) (amount_of rec) (10 ^ 13) (amount-small rec)
 worth-small (MarkedByCentre b) rec = if-small (eqb (mark_of rec) b) _ (10 ^ 13) (omega (arith, centre-one (maker_of (code_of rec))))
+
+-- the sums that have no total stay
+pub filled-rest :
+    (f : ℕ → ℕ) (old : List ℕ) (n : ℕ) → n ≤ length old → ((i : ℕ) → n ≤ i → f i ≡ get_or old i 0) → tabulate f n ++ drop n old ≡ tabulate f (length old)
+filled-rest f old n h rest = sym (tab-list f all each) ∙ ap (tabulate f) long
+  where
+    all : List ℕ
+    all = tabulate f n ++ drop n old
+
+    long : length all ≡ length old
+    long = omega (arith, length-append (tabulate f n) (drop n old), tab-length f n, length-drop n old)
+
+    each : (i : ℕ) → i < length all → f i ≡ get_or all i 0
+    each i _ =
+        ⊎_elim (λ l. sym (fill-at f old n i (ltb-true i n l))) (λ g. let p = ltb-false i n g in rest i p ∙ sym (fill-past f old n i p))
+        (either (ltb i n))
 
 module _ (k : Kind) (header bodies : List ℕ) where
   -- so a sum fits

@@ -9,8 +9,7 @@ use borrow.Author.Tests.{eq-eqb}
 use lib.ListN.{length}
 use Rattle.laws.proofs.Bools.{clash}
 use Rattle.kinds.specs.declared.of_files.Kind.{Kind}
-use Rattle.kinds.specs.declared.of_files.Named.{Named}
-use Rattle.kinds.specs.declared.of_files.Named.TheVariants.{Is, Unknown}
+use Rattle.std.specs.Prelude.{Option, Some, None}
 use Rattle.answers.specs.declared.told.Answer.{Answer}
 use Rattle.answers.specs.Answers.{accepted}
 use Rattle.reader.specs.Reading.{read_as}
@@ -38,10 +37,10 @@ module _ (k : Kind) (h : Head) (bodies : List ℕ) (room : ℕ) where
   write-good = told-good (write_as k h bodies room) (writer-tells k h bodies room)
 
 wrote-named :
-    (kind : ℕ) (h : Head) (bodies room : List ℕ) (n : Named) → request_of kind ≡ n →
+    (kind : ℕ) (h : Head) (bodies room : List ℕ) (n : Option Kind) → request_of kind ≡ n →
     (write_named n h bodies (length room)).number ≡ 0 → room_after kind h bodies room ≡ after_named n h bodies room → Wrote kind h bodies room
 unfolding after_as
-wrote-named kind h bodies room (Is k) e z s =
+wrote-named kind h bodies room (Some k) e z s =
     let good = write-good k h bodies (length room) z in
     let parts = written_apart k h bodies good.0 in
     record {
@@ -52,7 +51,7 @@ wrote-named kind h bodies room (Is k) e z s =
       head-back = parts.0;
       bodies-back = parts.1;
     }
-wrote-named kind h bodies room Unknown e z s = absurd (omega arith)
+wrote-named kind h bodies room None e z s = absurd (omega arith)
 
 -- *Written, read*: what the writer accepts is read as accepted, and taken apart is what was given
 pub written_read : (kind : ℕ) (h : Head) (bodies room : List ℕ) → (write_of kind h bodies (length room)).number ≡ 0 → Wrote kind h bodies room
@@ -70,16 +69,16 @@ no-two k h h' bodies bodies' room room' a b e =
     (sym p.0 ∙ (ap (head_in k) e ∙ q.0), sym p.1 ∙ (ap (bodies_in k) e ∙ q.1))
 
 agree-named :
-    (kind : ℕ) (h : Head) (bodies : List ℕ) (room : ℕ) (n : Named) → request_of kind ≡ n →
+    (kind : ℕ) (h : Head) (bodies : List ℕ) (room : ℕ) (n : Option Kind) → request_of kind ≡ n →
     writers_own (write_named n h bodies room).number ≡ false → Agrees kind h bodies (write_named n h bodies room)
 unfolding writers_own
-agree-named kind h bodies room (Is k) e o =
+agree-named kind h bodies room (Some k) e o =
     record {
       k = k;
       named = e;
       says = answers_agree k h bodies room o ∙ sym (read_named_lem kind (file_of k h bodies) k (request-kind kind k e));
     }
-agree-named kind h bodies room Unknown e o = absurd (clash refl o)
+agree-named kind h bodies room None e o = absurd (clash refl o)
 
 -- *Answers agree*, by the number of the kind: an answer other than 1, 2, 3 and 8 is the reader's under the same number
 pub numbers-agree :

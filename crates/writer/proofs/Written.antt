@@ -1,16 +1,17 @@
 -- The cases of writing: what is answered, and what the room holds.
 -- Assumes nothing.
 use Prim.Native.Nat.{ℕ, ◌+◌, ◌*◌, ◌≤◌, ◌<◌}
-use mathlib.Core.Bool.{Bool, true, false}
+use mathlib.Core.Bool.{true, false}
 use mathlib.Core.List.{List, ◌++◌}
-use mathlib.Core.Path.{◌≡◌, sym, ◌∙◌, ap}
-use native.Mathlib.Omega.{arith}
+use mathlib.Core.Path.{◌≡◌, sym, ◌∙◌}
 use borrow.Author.Tests.{le-leb, lt-leb, eq-eqb, ne_eqb}
 use lib.ListN.{length, drop}
 use Rattle.kinds.specs.declared.of_files.Kind.{Kind}
 use Rattle.kinds.specs.Kinds.{fixed_of, limit}
-use Rattle.answers.specs.declared.told.Answer.{Answer}
-use Rattle.answers.specs.Answers.{refused}
+use Rattle.answers.specs.declared.refusing.Refusal.{Refusal}
+use Rattle.answers.specs.Answers.{accepted, refused}
+use Rattle.answers.specs.Refusing.{told_by}
+use Rattle.answers.proofs.Tellings.{bad, good}
 use Rattle.reader.specs.Reading.{read_as}
 use Rattle.builder.specs.Records.{Head, body_count}
 use Rattle.builder.specs.Files.{file_of}
@@ -48,32 +49,11 @@ module _ (k : Kind) (h : Head) (bodies room : List ℕ) where
   unfolding write_as
   write_read t l r = rw (t, le-leb (body_count k bodies) limit l, le-leb ((body_count k bodies + 2) * (fixed_of k).size) (length room) r)
 
-  -- an answer, and what the room holds after it, as writing gives them
-  abbrev pub Told : Answer → List ℕ → Type 0
-  Told a after = (a ≡ write_as k h bodies (length room)) × (after ≡ after_as k h bodies room)
+  -- so of what is told
+  pub room-kept : (r : Refusal) → told_by r ≡ write_as k h bodies (length room) → room ≡ after_as k h bodies room
+  room-kept r e = sym (after-bad (bad r _ e))
 
-  told-bad : (number : ℕ) (a : Answer) → (number ≡ 0 → ⊥) → a ≡ refused number → write_as k h bodies (length room) ≡ refused number → Told a room
-  told-bad number a ne e w = (e ∙ sym w, sym (after-bad (λ z. ne (ap (λ (x : Answer). x.number) (sym w) ∙ z))))
-
-  -- each return of the writer, from the tests on its way
-  module _ (a : Answer) (fit : Bool) (is : fit ≡ parts_fit h bodies (fixed_of k).item6 (fixed_of k).item7 (fixed_of k).body) where
-    pub told-2 : fit ≡ false → a ≡ refused 2 → Told a room
-    told-2 f e = told-bad 2 a (λ z. omega arith) e (write-2 (sym is ∙ f))
-
-    -- of n bodies, for records of w bytes
-    module _ (n w : ℕ) (count : n ≡ body_count k bodies) (size : w ≡ (fixed_of k).size) (t : fit ≡ true) where
-      pub told-3 : limit < n → a ≡ refused 3 → Told a room
-      told-3 l e = told-bad 3 a (λ z. omega arith) e (write-3 (sym is ∙ t) (rw count at l))
-
-      pub told-8 : n ≤ limit → length room < (n + 2) * w → a ≡ refused 8 → Told a room
-      told-8 l r e = told-bad 8 a (λ z. omega arith) e (write-8 (sym is ∙ t) (rw count at l) (rw (count, size) at r))
-
-      module _ (l : n ≤ limit) (r : (n + 2) * w ≤ length room) (e : a ≡ read_as k (file_of k h bodies)) where
-        told : a ≡ write_as k h bodies (length room)
-        told = e ∙ sym (write_read (sym is ∙ t) (rw count at l) (rw (count, size) at r))
-
-        pub told-read : (a.number ≡ 0 → ⊥) → Told a room
-        told-read ne = (told, sym (after-bad (λ z. ne (ap (λ (x : Answer). x.number) told ∙ z))))
-
-        pub told-good : (after : List ℕ) → a.number ≡ 0 → after ≡ file_of k h bodies ++ drop ((n + 2) * (fixed_of k).size) room → Told a after
-        told-good after z s = (told, rw count at s ∙ sym (after-good (ap (λ (x : Answer). x.number) (sym told) ∙ z)))
+  pub room-filled :
+      (after : List ℕ) → accepted ≡ write_as k h bodies (length room) →
+      after ≡ file_of k h bodies ++ drop ((body_count k bodies + 2) * (fixed_of k).size) room → after ≡ after_as k h bodies room
+  room-filled after e s = s ∙ sym (after-good (good _ e))

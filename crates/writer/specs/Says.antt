@@ -1,8 +1,7 @@
 -- What the writer's answers say, and what a file that it wrote is.
-use Rattle.std.specs.Prelude.{ℕ, ◌^◌, ◌≤◌, ◌<◌, Bool, true, false, ◌||◌, List, ◌++◌, ◌≡◌, eqb, length, get_or, drop}
+use Rattle.std.specs.Prelude.{ℕ, ◌^◌, ◌≤◌, ◌<◌, Bool, true, false, ◌||◌, List, ◌++◌, ◌≡◌, eqb, length, get_or, drop, Some}
 use Rattle.kinds.specs.declared.of_files.Kind.{Kind}
 use Rattle.kinds.specs.declared.of_files.Form.TheVariants.{DebitRequest}
-use Rattle.kinds.specs.declared.of_files.Named.TheVariants.{Is}
 use Rattle.tables.specs.declared.totals.Quantity.TheVariants.{Amounts}
 use Rattle.kinds.specs.Kinds.{fixed_of, limit}
 use Rattle.answers.specs.declared.told.Answer.{Answer}
@@ -44,7 +43,7 @@ pub data Tells (k : Kind) (h : Head) (bodies : List ℕ) (room : ℕ) : Answer �
 -- a file that was written under a number into a room
 pub record Wrote (kind : ℕ) (h : Head) (bodies room : List ℕ) : Type 0 where
   pub k : Kind
-  pub named : request_of kind ≡ Is k
+  pub named : request_of kind ≡ Some k
   -- the room holds the file, and past it what it held
   pub stands : room_after kind h bodies room ≡ file_of k h bodies ++ drop (length (file_of k h bodies)) room
   -- it is read as accepted under the same number
@@ -56,7 +55,7 @@ pub record Wrote (kind : ℕ) (h : Head) (bodies room : List ℕ) : Type 0 where
 -- a kind that is asked for by its number, and the reader's answer on the file to be written
 pub record Agrees (kind : ℕ) (h : Head) (bodies : List ℕ) (a : Answer) : Type 0 where
   pub k : Kind
-  pub named : request_of kind ≡ Is k
+  pub named : request_of kind ≡ Some k
   pub says : a ≡ read_of kind (file_of k h bodies)
 
 -- 6, which only a debit request is told: nothing else is wrong before it, and the amounts sum to more than 13 digits say
@@ -71,6 +70,6 @@ pub record TooMuch (k : Kind) (h : Head) (bodies : List ℕ) (room : ℕ) : Type
 -- a number that names a debit request, of which that is so
 pub record OnlyDebit (kind : ℕ) (h : Head) (bodies : List ℕ) (room : ℕ) : Type 0 where
   pub k : Kind
-  pub named : request_of kind ≡ Is k
+  pub named : request_of kind ≡ Some k
   pub debit : k.form ≡ DebitRequest
   pub much : TooMuch k h bodies room

@@ -1,15 +1,14 @@
 -- What the writer answers, and what the room holds after it.
-use Rattle.std.specs.Prelude.{ℕ, ◌+◌, ◌-◌, ◌*◌, ◌%◌, Bool, cond, ◌&&◌, List, [], ◌++◌, leb, ltb, eqb, length, get_or, drop}
+use Rattle.std.specs.Prelude.{ℕ, ◌+◌, ◌-◌, ◌*◌, ◌%◌, Bool, cond, ◌&&◌, List, [], ◌++◌, leb, ltb, eqb, length, get_or, drop, Option, Some, None}
 use Rattle.laws.specs.Least.{least}
 use Rattle.laws.specs.Part.{part}
 use Rattle.laws.specs.Sum.{sum}
 use Rattle.numbers.specs.Numbers.{says}
 use Rattle.kinds.specs.declared.of_files.Kind.{Kind}
-use Rattle.kinds.specs.declared.of_files.Named.{Named}
-use Rattle.kinds.specs.declared.of_files.Named.TheVariants.{Is, Unknown}
 use Rattle.kinds.specs.declared.of_files.Role.TheVariants.{Header, Data, Trailer}
 use Rattle.kinds.specs.Kinds.{front, fixed_of, limit, request_of}
 use Rattle.tables.specs.Places.{code_place, date_place}
+use Rattle.tables.specs.declared.totals.Total.{Total}
 use Rattle.tables.specs.Totals.{no_total, totals_of}
 use Rattle.answers.specs.declared.told.Answer.{Answer}
 use Rattle.answers.specs.Answers.{accepted, refused, refused_at, first_told, ◌then◌}
@@ -44,13 +43,13 @@ after_as k h bodies room =
     cond (eqb (write_as k h bodies (length room)).number 0) (file_of k h bodies ++ drop (length (file_of k h bodies)) room) room
 
 -- other kinds are 1, and leave the room as it was
-abbrev pub write_named : Named → Head → List ℕ → ℕ → Answer
-write_named (Is k) h bodies room = write_as k h bodies room
-write_named Unknown h bodies room = refused 1
+abbrev pub write_named : Option Kind → Head → List ℕ → ℕ → Answer
+write_named (Some k) h bodies room = write_as k h bodies room
+write_named None h bodies room = refused 1
 
-abbrev pub after_named : Named → Head → List ℕ → List ℕ → List ℕ
-after_named (Is k) h bodies room = after_as k h bodies room
-after_named Unknown h bodies room = room
+abbrev pub after_named : Option Kind → Head → List ℕ → List ℕ → List ℕ
+after_named (Some k) h bodies room = after_as k h bodies room
+after_named None h bodies room = room
 
 unfoldable pub write_of : ℕ → Head → List ℕ → ℕ → Answer
 write_of kind h bodies room = write_named (request_of kind) h bodies room
@@ -82,11 +81,13 @@ sum_to k header bodies i t = sum (worth_built k header bodies t) i
 unfoldable pub sum_with : Kind → List ℕ → List ℕ → ℕ → ℕ
 sum_with k rec sums t = get_or sums t 0 + worth_for k rec t
 
--- of total t: refusal 6 where the trailer, which is record `number`, does not say the sum; and of all of them, by item
+-- of a total: refusal 6 where the trailer, which is record `number`, does not say the sum
+abbrev pub total_told : List ℕ → ℕ → Total → ℕ → Answer
+total_told trailer number t sum = cond (says (part t.1 t.2 trailer) sum) accepted (refused_at 6 number t.0 0x30303030)
+
+-- of total t, and of all of them, by item
 unfoldable pub sum_told : Kind → List ℕ → List ℕ → ℕ → ℕ → Answer
-sum_told k trailer sums number t =
-    cond (says (part (get_or (totals_of k) t no_total).1 (get_or (totals_of k) t no_total).2 trailer) (get_or sums t 0)) accepted
-    (refused_at 6 number (get_or (totals_of k) t no_total).0 0x30303030)
+sum_told k trailer sums number t = total_told trailer number (get_or (totals_of k) t no_total) (get_or sums t 0)
 
 unfoldable pub sums_told : Kind → List ℕ → List ℕ → ℕ → Answer
 sums_told k trailer sums number = first_told (sum_told k trailer sums number) (length (totals_of k))

@@ -2,71 +2,54 @@
 ghost use Rattle.std.specs.Prelude.{◌≡◌, ℕ, ◌+◌, ◌*◌, ◌≤◌, ◌<◌, ◌^◌, length, get_or};
 ghost use Rattle.laws.specs.Tabulate.{tabulate};
 ghost use Rattle.kinds.specs.Kinds.{limit};
-ghost use Rattle.tables.specs.Totals.{totals_of, most_totals};
+ghost use Rattle.tables.specs.Totals.{most_totals};
+ghost use Rattle.answers.specs.Refusing.{answer_of};
 ghost use Rattle.records.specs.Records.{record_of, count_of};
-ghost use Rattle.writer.specs.Writing.{worth_for, sum_with, sum_told, sums_told};
+ghost use Rattle.writer.specs.Writing.{sum_with, total_told, sums_told};
 
-use answers::told::Answer;
+use answers::refusing::Refusal;
 use kinds::of_files::Kind;
 use numbers::base_ten;
 use records::quantities;
 use tables::totals;
-use tables::totals::MOST_TOTALS;
+use tables::totals::{MOST_TOTALS, Total};
 use text::parts;
 
-// What record 1 of the frame adds to sum t; 0 where the trailer has fewer totals.
-fn worth_for(kind: Kind, frame: &[u8], t: usize) -> u64
-    requires { 3 ≤ count_of kind frame.now }
-    ensures value { result ≡ worth_for kind (record_of kind frame.now 1) t }
-    ensures upper_bound { result < 10 ^ 13 }
-{
-    if t < totals::total_count(kind) {
-        let quantity = totals::total_at(kind, t).3;
-        return quantities::worth_at(kind, frame, quantity, 0);
-    }
-    0
-}
-
-// The sums with record 1 of the frame.
-pub(crate) fn with_record(kind: Kind, frame: &[u8], sums: [u64; MOST_TOTALS]) -> [u64; MOST_TOTALS]
+// Adds record 1 of the frame to the sums, total by total.
+pub(crate) fn add_record(kind: Kind, frame: &[u8], sums: &mut [u64; MOST_TOTALS])
     requires bound { 3 ≤ count_of kind frame.now }
-    requires by_index { (t : ℕ) → t < most_totals → get_or sums t 0 ≤ limit * 10 ^ 13 }
-    ensures { result ≡ tabulate (sum_with kind (record_of kind frame.now 1) sums) most_totals }
+    requires by_index { (t : ℕ) → t < most_totals → get_or sums.old t 0 ≤ limit * 10 ^ 13 }
+    ensures { sums.new ≡ tabulate (sum_with kind (record_of kind frame.now 1) sums.old) most_totals }
 {
-    let mut more = [0u64; MOST_TOTALS];
-    let mut t = 0;
-    while t < MOST_TOTALS {
-        more[t] = sums[t] + worth_for(kind, frame, t);
-        t += 1;
+    // Kept: after a zip with `iter_mut` a proof does not know what the sums are.
+    for (t, total) in totals::totals_of(kind).iter().enumerate() {
+        sums[t] += quantities::worth_at(kind, frame, total.3, 0);
     }
-    more
 }
 
-fn sum_tells(kind: Kind, trailer: &[u8], sums: [u64; MOST_TOTALS], number: u64, t: usize) -> Answer
-    requires in_bounds { 120 ≤ length trailer.now }
-    requires t_in_bounds { t < length (totals_of kind) }
-    ensures { result ≡ sum_told kind trailer.now sums number t }
+// Whether the trailer, record `number`, says a total as it is summed.
+fn total_tells(trailer: &[u8], number: u64, total: Total, sum: u64) -> Result<(), Refusal>
+    requires { total.1 + total.2 ≤ length trailer.now }
+    ensures { answer_of result ≡ total_told trailer.now number total sum }
 {
-    let total = totals::total_at(kind, t);
-    if base_ten::says(parts::part(trailer, total.1, total.2), sums[t]) {
-        return Answer::accepted();
+    if base_ten::says(parts::part(trailer, total.1, total.2), sum) {
+        return Ok(());
     }
-    Answer::refused_at(6, number, total.0, Answer::UNUSED)
+    Err(Refusal::Total(number, total.0))
 }
 
 // The first total, by item, that the trailer, record `number`, does not say as it is summed.
-pub(crate) fn sums_tell(kind: Kind, trailer: &[u8], sums: [u64; MOST_TOTALS], number: u64) -> Answer
+pub(crate) fn sums_tell(
+    kind: Kind,
+    trailer: &[u8],
+    sums: [u64; MOST_TOTALS],
+    number: u64,
+) -> Result<(), Refusal>
     requires { 120 ≤ length trailer.now }
-    ensures { result ≡ sums_told kind trailer.now sums number }
+    ensures { answer_of result ≡ sums_told kind trailer.now sums number }
 {
-    let n = totals::total_count(kind);
-    let mut t = 0;
-    while t < n {
-        let answer = sum_tells(kind, trailer, sums, number, t);
-        if answer.number != 0 {
-            return answer;
-        }
-        t += 1;
+    for (total, sum) in totals::totals_of(kind).iter().zip(&sums) {
+        total_tells(trailer, number, *total, *sum)?;
     }
-    Answer::accepted()
+    Ok(())
 }

@@ -1,102 +1,57 @@
 // Writing a request file: 1, 2, 3, 8, then as reading the file to be written.
 ghost use Rattle.std.specs.Prelude.{◌≡◌, ◌<◌, length};
-ghost use Rattle.builder.specs.Records.{head_of, body_count};
+ghost use Rattle.answers.specs.Refusing.{answer_of};
+ghost use Rattle.builder.specs.Records.{given};
 ghost use Rattle.writer.specs.Writing.{parts_fit, write_as, after_as, write_of, room_after};
 
 use crate::deciding;
-use answers::told::Answer;
+use answers::refusing::Refusal;
 use builder::files;
+use builder::heads::Head;
 use kinds::of_files;
-use kinds::of_files::{Fixed, Kind, LIMIT, Named};
+use kinds::of_files::{Fixed, Kind, LIMIT};
 
 // Every part is as long as its item, and the bodies are whole.
-fn parts_fit(
-    date: &[u8],
-    code: &[u8],
-    item6: &[u8],
-    item7: &[u8],
-    bodies: &[u8],
-    long6: usize,
-    long7: usize,
-    body: usize,
-) -> bool
-    requires { 0 < body }
-    ensures { result ≡ parts_fit (head_of date.now code.now item6.now item7.now) bodies.now long6 long7 body }
+#[tactic(auto, unfolding(crate::specs::Writing::parts_fit))]
+fn parts_fit(fixed: Fixed, head: Head, bodies: &[u8]) -> bool
+    requires { 0 < fixed.body }
+    ensures { result ≡ parts_fit (given head.entry) bodies.now fixed.item6 fixed.item7 fixed.body }
 {
-    if date.len() != 6 {
-        return false;
-    }
-    if code.len() != 10 {
-        return false;
-    }
-    if item6.len() != long6 {
-        return false;
-    }
-    item7.len() == long7 && bodies.len() % body == 0
-}
-
-fn body_count(kind: Kind, bodies: &[u8]) -> usize
-    ensures { result ≡ body_count kind bodies.now }
-{
-    bodies.len() / Fixed::of(kind).body
+    head.date.len() == 6
+        && head.code.len() == 10
+        && head.item6.len() == fixed.item6
+        && head.item7.len() == fixed.item7
+        && bodies.len() % fixed.body == 0
 }
 
 // Decides first, then stores.
-fn write_as(
-    kind: Kind,
-    date: &[u8],
-    code: &[u8],
-    item6: &[u8],
-    item7: &[u8],
-    bodies: &[u8],
-    room: &mut [u8],
-) -> Answer
-    ensures value { result ≡ write_as kind (head_of date.now code.now item6.now item7.now) bodies.now (length room.old) }
-    ensures room_after { room.new ≡ after_as kind (head_of date.now code.now item6.now item7.now) bodies.now room.old }
+fn write_as(kind: Kind, head: Head, bodies: &[u8], room: &mut [u8]) -> Result<(), Refusal>
+    ensures value { answer_of result ≡ write_as kind (given head.entry) bodies.now (length room.old) }
+    ensures room_after { room.new ≡ after_as kind (given head.entry) bodies.now room.old }
 {
     let fixed = Fixed::of(kind);
-    if parts_fit(
-        date,
-        code,
-        item6,
-        item7,
-        bodies,
-        fixed.item6,
-        fixed.item7,
-        fixed.body,
-    ) {
-        let n = body_count(kind, bodies);
-        if LIMIT < n {
-            return Answer::refused(3);
-        }
-        if room.len() < (n + 2) * Fixed::size_of(kind) {
-            return Answer::refused(8);
-        }
-        let answer = deciding::judge(kind, date, code, item6, item7, bodies, n);
-        if answer.number == 0 {
-            files::put(kind, date, code, item6, item7, bodies, n, room);
-        }
-        return answer;
+    if !parts_fit(fixed, head, bodies) {
+        return Err(Refusal::Length);
     }
-    Answer::refused(2)
+    let n = bodies.len() / fixed.body;
+    if LIMIT < n {
+        return Err(Refusal::TooMany);
+    }
+    if room.len() < (n + 2) * fixed.size {
+        return Err(Refusal::ShortRoom);
+    }
+    deciding::judge(kind, head, bodies, n)?;
+    files::put(kind, head, bodies, n, room);
+    Ok(())
 }
 
 // Writes a file of the kind into the room, or says why not and leaves the room as it was.
-pub fn write(
-    kind: u64,
-    date: &[u8],
-    code: &[u8],
-    item6: &[u8],
-    item7: &[u8],
-    bodies: &[u8],
-    room: &mut [u8],
-) -> Answer
-    ensures value { result ≡ write_of kind (head_of date.now code.now item6.now item7.now) bodies.now (length room.old) }
-    ensures room_after { room.new ≡ room_after kind (head_of date.now code.now item6.now item7.now) bodies.now room.old }
+pub fn write(kind: u64, head: Head, bodies: &[u8], room: &mut [u8]) -> Result<(), Refusal>
+    ensures value { answer_of result ≡ write_of kind (given head.entry) bodies.now (length room.old) }
+    ensures room_after { room.new ≡ room_after kind (given head.entry) bodies.now room.old }
 {
-    let named = of_files::request_of(kind);
-    match named {
-        Named::Is(request) => write_as(request, date, code, item6, item7, bodies, room),
-        Named::Unknown => Answer::refused(1),
-    }
+    let Some(request) = of_files::request_of(kind) else {
+        return Err(Refusal::UnknownKind);
+    };
+    write_as(request, head, bodies, room)
 }

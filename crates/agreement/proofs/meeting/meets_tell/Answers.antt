@@ -1,24 +1,24 @@
 -- Copied items, then amounts.
-use Rattle.answers.proofs.Refusals.{then-first, then-second}
-use Rattle.agreement.specs.Items.{items_tell}
+use native.Mathlib.Omega.{arith}
+use Rattle.agreement.specs.Items.{Records}
+use Rattle.agreement.proofs.Places.{compared-inside}
 use Rattle.kinds.specs.Pairs.{request_kind}
 use Rattle.agreement.specs.Meeting.{meets_tell}
+use Rattle.answers.specs.declared.refusing.Refusal.TheVariants.{Unanswered}
+use Rattle.answers.proofs.Tellings.{first, next}
 use Rattle.tables.proofs.Tiling.{size-least}
-use mathlib.Core.Path.{sym}
-use native.Mathlib.Omega.{arith}
 use Rattle.agreement.proofs.meeting.meets_tell.Goals as goal
 
-pub items_tell-copied-requires : goal.items_tell-copied-requires
-items_tell-copied-requires c =
-    record {
-      number_nonzero = omega arith;
-      a_len = c.requires.request_len;
-      b_len = c.requires.res_len;
-    }
+pub first_differing-requires : goal.first_differing-requires
+first_differing-requires c =
+    let inside = compared-inside c.args.pair Records in
+    rw (c.copied_of-copied.ensures, c.request_kind.ensures, c.requires.request_len, c.requires.res_len) (record { by_index = inside; by_index_2 = inside })
 
-pub returns-then-copied-ne0 : goal.returns-then-copied-ne0
+pub returns-in-Some : goal.returns-in-Some
 unfolding meets_tell
-returns-then-copied-ne0 c = rw c.items_tell-copied.ensures (sym (then-first _ _ (rw (← c.items_tell-copied.ensures) c.if-copied-ne0.true)))
+returns-in-Some c =
+    let told = rw (c.in-Some.is, c.copied_of-copied.ensures, c.request_kind.ensures) at c.first_differing.ensures 13 c.args.rec (omega arith) in
+    first (Unanswered c.args.rec c.in-Some.item) _ _ told
 
 pub amounts_tell-requires : goal.amounts_tell-requires
 amounts_tell-requires c =
@@ -30,4 +30,6 @@ amounts_tell-requires c =
 
 pub returns : goal.returns
 unfolding meets_tell
-returns c = rw c.amounts_tell.ensures (sym (then-second (items_tell _ _ _ _ _) _ (rw (← c.items_tell-copied.ensures) c.if-copied-ne0.false)))
+returns c =
+    let told = rw (c.in_default.is, c.copied_of-copied.ensures, c.request_kind.ensures) at c.first_differing.ensures 13 c.args.rec (omega arith) in
+    next _ _ _ told c.amounts_tell.ensures

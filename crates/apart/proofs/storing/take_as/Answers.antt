@@ -1,46 +1,47 @@
 -- Reading first, then the room; only then is anything stored.
-use mathlib.Core.Path.{ap}
+use Rattle.std.specs.Prelude.{Err}
+use mathlib.Core.Path.{◌≡◌}
+use borrow.Author.Rules.{rules}
 use native.Mathlib.Omega.{arith}
-use Rattle.kinds.specs.declared.of_files.Fixed.{Fixed}
+use Rattle.answers.specs.Refusing.{told_by}
+use Rattle.answers.proofs.Tellings.{good, told-refuses}
 use Rattle.apart.proofs.Bodies.{bodies-within}
 use Rattle.apart.proofs.Stored.{told-read, told-8, told-good}
 use Rattle.apart.proofs.storing.take_as.Goals as goal
 
-pub returns-then-answer-ne0 : goal.returns-then-answer-ne0
-returns-then-answer-ne0 c =
+pub returns-in_err-read_as : goal.returns-in_err-read_as
+returns-in_err-read_as c =
     let a = c.args in
-    let q = told-read a.kind a.file.now a.room.now _ c.read_as-answer.ensures c.if-answer-ne0.true in
-    record {
+    let r = c.in_err-read_as.field-0.0 in
+    let e : c.from_residual.result ≡ Err r = search rules in
+    let q = told-read a.kind a.file.now a.room.now (told_by r) c.in_err-read_as.ensures (told-refuses r) in
+    rw e (record {
       value = q.0;
       room_after = q.1;
-    }
+    })
 
 pub overflow_mul-size : goal.overflow_mul-size
 overflow_mul-size c =
     let a = c.args in
-    rw (c.of.ensures, c.data_count-n.ensures) (omega (arith, bodies-within a.kind a.file.now))
+    rw (c.of.ensures, c.data_count.ensures) (omega (arith, bodies-within a.kind a.file.now))
 
 pub returns-then-room-size : goal.returns-then-room-size
 returns-then-room-size c =
     let a = c.args in
-    let q = told-8 a.kind a.file.now a.room.now _ c.read_as-answer.ensures c.if-answer-ne0.false _ _ c.data_count-n.ensures (ap (λ (f : Fixed). f.body) c.of.ensures) _ c.if-room-size.true c.refused.ensures in
+    let q = told-8 a.kind a.file.now a.room.now (good _ c.in_ok-read_as.ensures) (rw (c.of.ensures, c.data_count.ensures) at c.if-room-size.true) in
     record {
       value = q.0;
       room_after = q.1;
     }
 
 pub store-requires : goal.store-requires
-store-requires c =
-    record {
-      n_value = c.data_count-n.ensures;
-      kind_in_bounds = rw c.of.ensures at c.if-room-size.false;
-    }
+store-requires c = rw (c.of.ensures, c.data_count.ensures) at c.if-room-size.false
 
 pub returns : goal.returns
 returns c =
     let a = c.args in
-    let q = told-good a.kind a.file.now a.room.now _ c.read_as-answer.ensures c.if-answer-ne0.false _ _ c.data_count-n.ensures (ap (λ (f : Fixed). f.body) c.of.ensures) _ c.if-room-size.false c.store.ensures in
-    record {
+    let q = told-good a.kind a.file.now a.room.now (good _ c.in_ok-read_as.ensures) _ (rw (c.of.ensures, c.data_count.ensures) at c.if-room-size.false) c.store.ensures in
+    rw (c.of.ensures, c.data_count.ensures) (record {
       value = q.0;
       room_after = q.1;
-    }
+    })

@@ -1,19 +1,15 @@
 -- Below the turn the sum; from there on what it has over whole cycles.
-use Prim.Native.Nat.{◌+◌, ◌-◌, ◌≤◌}
+use Prim.Native.Nat.{◌+◌, ◌≤◌}
 use mathlib.Core.Path.{sym, ◌∙◌, ap}
 use native.Mathlib.Nat.{add-mod}
 use native.Mathlib.Omega.{arith}
-use borrow.Author.Tests.{ltb-true}
 use Rattle.arrival.specs.Counting.{turn, cycle}
 use Rattle.arrival.proofs.Counted.{counted-low, counted-high}
 use Rattle.arrival.proofs.counting.count_on.Goals as goal
 use Rattle.arrival.proofs.counting.count_on.Goals.{else-n-lt-TURN-via-then-n-lt-TURN+else-more-n, else-n-lt-TURN-via-else-n-lt-TURN}
 
-pub overflow_add-result : goal.overflow_add-result
-overflow_add-result c = omega (arith, c.if-n-lt-TURN.true, ltb-true c.args.more (turn - c.args.n) c.if-more-n.true-raw)
-
 pub returns-then-more-n : goal.returns-then-more-n
-returns-then-more-n c = sym (counted-low _ (omega (arith, c.if-n-lt-TURN.true, ltb-true c.args.more (turn - c.args.n) c.if-more-n.true-raw)))
+returns-then-more-n c = sym (counted-low _ (omega arith))
 
 pub returns : goal.returns
 returns c =

@@ -5,13 +5,12 @@ use Rattle.kinds.specs.Kinds.{fixed_of}
 use Rattle.builder.proofs.Built.{filled-start, filled_next}
 use Rattle.builder.proofs.Sizes.{one_more, frame-fits}
 use borrow.Author.Rules.{rules}
-use mathlib.Core.Path.{refl, ◌∙◌}
 use native.Mathlib.Nat.{le_antisymm}
 use native.Mathlib.Omega.{arith}
 use Rattle.builder.proofs.files.put_data.Goals as goal
 
 pub loop-i-init : goal.loop-i-init
-loop-i-init c = let a = c.args in (search rules, refl, filled-start a.kind a.bodies.now a.file.now (omega (arith, one_more a.n (fixed_of a.kind).size)))
+loop-i-init c = let a = c.args in filled-start a.kind a.bodies.now a.file.now (omega (arith, one_more a.n (fixed_of a.kind).size))
 
 pub overflow_mul-i : goal.overflow_mul-i
 overflow_mul-i c =
@@ -30,13 +29,10 @@ pub loop-i-preserved : goal.loop-i-preserved
 loop-i-preserved c =
     let a = c.args in
     let l = c.loop-i in
-    let p = c.put_record in (
-      search rules,
-      p.auto.file ∙ l.invariant.1,
-      filled_next a.kind a.bodies.now a.file.now (omega (arith, one_more a.n (fixed_of a.kind).size)) l.i l.file _ l.invariant.2 (rw c.size_of-size.ensures at p.ensures),
-    )
+    let p = c.put_record in
+    filled_next a.kind a.bodies.now a.file.now (omega (arith, one_more a.n (fixed_of a.kind).size)) l.i l.file _ l.invariant (rw c.size_of-size.ensures at p.ensures)
 
 pub returns : goal.returns
 returns c =
     let l = c.loop-i in
-    rw (← le_antisymm c.loop-i-test.false l.invariant.0) at l.invariant.2
+    rw (← le_antisymm c.loop-i-test.false l.auto.i-end) at l.invariant

@@ -1,12 +1,14 @@
 -- By whether the trailer has such a total.
+use Rattle.tables.specs.Totals.{no_total}
 use Rattle.builder.specs.Records.{file_total}
-use borrow.Author.Tests.{lt-ltb, le-ltb}
 use Rattle.builder.proofs.files.sum_at.Goals as goal
 
-pub returns-then-t-total_count : goal.returns-then-t-total_count
+pub returns-in-Some : goal.returns-in-Some
 unfolding file_total
-returns-then-t-total_count c = rw (← c.total_count.ensures, lt-ltb _ _ c.if-t-total_count.true, ← c.total_at-quantity.ensures) c.quantity_of.ensures
+returns-in-Some c =
+    let found = c.in-Some.ensures.lookup in
+    rw (← c.totals_of.ensures, ← found.0, ← found.3.1 no_total) c.quantity_of.ensures
 
-pub returns : goal.returns
+pub returns-in-None : goal.returns-in-None
 unfolding file_total
-returns c = rw (← c.total_count.ensures, le-ltb _ _ c.if-t-total_count.false)
+returns-in-None c = rw (← c.totals_of.ensures, ← c.in-None.ensures.lookup.0)

@@ -1,43 +1,23 @@
 -- How many there are, then each.
-use mathlib.Core.Path.{◌≡◌, sym, ◌∙◌}
-use native.Mathlib.Nat.{le_antisymm}
-use native.Mathlib.Omega.{arith}
-use Rattle.laws.proofs.Leasts.{least_start}
-use Rattle.answers.proofs.Refusals.{number_of, told_more, told-stop, told-end}
+use Rattle.std.proofs.Common.{rules, tests, ◌≡◌}
+use Rattle.std.specs.List.{list_all}
+use Rattle.std.proofs.lemmas.Iterator.{YieldsList-from_slice}
+use Rattle.std.proofs.lemmas.Iterator.Search.{all_from_yields_List}
 use borrow.Author.Tests.{eq-eqb, ne_eqb}
-use Rattle.answers.specs.Answers.{accepted, refused}
-use Rattle.changes.specs.Answers.{answer_told, answers_told}
+use Rattle.changes.specs.Answers.{is_answer}
+use Rattle.changes.proofs.Told.{answers_all}
+use Rattle.changes.proofs.codes.answers_tell.Goals.{else-answers-n-via-then-answers-n+else-all, else-answers-n-via-else-answers-n}
 use Rattle.changes.proofs.codes.answers_tell.Goals as goal
 
-pub returns-then-answers-n : goal.returns-then-answers-n
-unfolding answers_told
-returns-then-answers-n c = rw (ne_eqb _ _ c.if-answers-n.true) c.refused.ensures
-
-pub loop-i-init : goal.loop-i-init
-loop-i-init c = (omega arith, least_start _)
-
-pub loop-i-preserved : goal.loop-i-preserved
-unfolding answer_told
-loop-i-preserved c =
-    let l = c.loop-i in
-    let a = c.args in
-    let here : answer_told a.answers.now l.i ≡ accepted = rw (← c.is_answer.ensures, c.if-is_answer.true) in
-    (omega (arith, c.loop-i-test.true), told_more (answer_told a.answers.now) l.i l.invariant.1 (number_of here))
-
-pub returns-else-is_answer : goal.returns-else-is_answer
-unfolding answers_told answer_told
-returns-else-is_answer c =
-    let l = c.loop-i in
-    let a = c.args in
-    let here : answer_told a.answers.now l.i ≡ refused 51 = rw (← c.is_answer.ensures, c.if-is_answer.false) in
-    rw (eq-eqb _ _ c.if-answers-n.false)
-    (c.refused-else-is_answer.ensures ∙ sym (told-stop (answer_told a.answers.now) l.i a.n c.loop-i-test.true l.invariant.1 (λ z. absurd (omega (arith, number_of (sym here) ∙ z))) ∙ here))
+pub returns-then-all : goal.returns-then-all
+returns-then-all c =
+    let all : c.all.result ≡ list_all is_answer c.args.answers.now = all_from_yields_List is_answer _ _ c.all.result c.all.ensures.ran (YieldsList-from_slice c.args.answers.now c.iter.ensures.rest) (λ x b q k. search (rules, tests)) in
+    rw (eq-eqb _ _ c.if-answers-n.true, ← all, c.if-all.true) at (answers_all c.args.answers.now c.args.n)
 
 pub returns : goal.returns
-unfolding answers_told
-returns c =
-    let l = c.loop-i in
-    let a = c.args in
-    let end = le_antisymm l.invariant.0 c.loop-i-test.false in
-    rw (eq-eqb _ _ c.if-answers-n.false)
-    (c.accepted.ensures ∙ sym (told-end (answer_told a.answers.now) a.n (rw end at l.invariant.1)))
+returns c = elim c.else-answers-n.branch [
+  | else-answers-n-via-then-answers-n+else-all w ↦
+      let all : w.all.result ≡ list_all is_answer c.args.answers.now = all_from_yields_List is_answer _ _ w.all.result w.all.ensures.ran (YieldsList-from_slice c.args.answers.now w.iter.ensures.rest) (λ x b q k. search (rules, tests)) in
+      rw (eq-eqb _ _ w.if-answers-n.true, ← all, w.if-all.false) at (answers_all c.args.answers.now c.args.n)
+  | else-answers-n-via-else-answers-n w ↦ rw (ne_eqb _ _ w.if-answers-n.false) at (answers_all c.args.answers.now c.args.n)
+]

@@ -1,54 +1,48 @@
 -- The chains, then the three in their order.
 use Prim.Native.Nat.{◌+◌}
-use mathlib.Core.Path.{sym, ◌∙◌}
+use Rattle.std.specs.Prelude.{Err}
+use mathlib.Core.Path.{◌≡◌}
 use native.Mathlib.Omega.{arith}
+use borrow.Author.Rules.{rules}
 use Rattle.keys.proofs.Chained.{none-zeros}
 use Rattle.keys.specs.Chains.{slots}
-use Rattle.kinds.specs.Kinds.{limit, EB11}
-use Rattle.answers.proofs.Refusals.{number_of, then-first, then-second}
-use Rattle.reader.proofs.Places.{key_fits}
+use Rattle.kinds.specs.Kinds.{limit}
+use Rattle.answers.proofs.Tellings.{first, next, good}
 use Rattle.changes.specs.Deciding.{answered_told}
 use Rattle.changes.proofs.Told.{answers-many}
 use Rattle.changes.proofs.deciding.answered_tells.Goals as goal
 
-pub spacing-spacing-requires : goal.spacing-spacing-requires
-spacing-spacing-requires c = omega arith
+pub keys_of-keys-requires : goal.keys_of-keys-requires
+keys_of-keys-requires c = omega (arith, c.requires.lengths.fewest)
 
 pub chain-requires : goal.chain-requires
 unfolding slots
 chain-requires c =
     let m = c.requires.lengths in
-    let n = c.data_count-n.ensures in
+    let n = c.keys_of-keys.ensures.n_value in
     record {
-      inside = rw c.spacing-spacing.ensures (key_fits EB11 c.args.file.now _ (omega (arith, n, m.fewest)));
       n_bound = omega (arith, n, m.most);
       n_in_bounds = omega (arith, n, m.most);
       links_value = none-zeros (slots + limit);
     }
 
-pub changes_tell-of_changes-requires : goal.changes_tell-of_changes-requires
-changes_tell-of_changes-requires c = record { meets = c.requires; all = c.data_count-n.ensures; chained = rw c.spacing-spacing.ensures at c.chain.ensures.chained }
-
-pub returns-then-of_changes-ne0 : goal.returns-then-of_changes-ne0
+pub returns-in_err-changes_tell : goal.returns-in_err-changes_tell
 unfolding answered_told
-returns-then-of_changes-ne0 c = rw (← c.data_count-n.ensures, ← c.changes_tell-of_changes.ensures) (sym (then-first _ _ c.if-of_changes-ne0.true))
+returns-in_err-changes_tell c =
+    let e : c.from_residual.result ≡ Err c.in_err-changes_tell.field-0.0 = search rules in
+    rw (e, ← c.keys_of-keys.ensures.n_value) (first _ _ _ c.in_err-changes_tell.ensures)
 
-pub returns-then-of_answers-ne0 : goal.returns-then-of_answers-ne0
+pub returns-in_err-answers_tell : goal.returns-in_err-answers_tell
 unfolding answered_told
-returns-then-of_answers-ne0 c =
-    rw (← c.data_count-n.ensures, ← c.changes_tell-of_changes.ensures, ← c.answers_tell-of_answers.ensures)
-    (sym (then-second _ _ c.if-of_changes-ne0.false ∙ then-first _ _ c.if-of_answers-ne0.true))
+returns-in_err-answers_tell c =
+    let e : c.from_residual-in_err-answers_tell.result ≡ Err c.in_err-answers_tell.field-0.0 = search rules in
+    rw (e, ← c.keys_of-keys.ensures.n_value) (next _ _ _ c.in_ok-changes_tell.ensures (first _ _ _ c.in_err-answers_tell.ensures))
 
 pub splits_tell-requires : goal.splits_tell-requires
-splits_tell-requires c =
-    let z = c.if-of_answers-ne0.false in
-    record {
-      keyed = record { meets = c.requires; all = c.data_count-n.ensures; chained = rw c.spacing-spacing.ensures at c.chain.ensures.chained };
-      answers_len = answers-many _ _ (number_of (sym c.answers_tell-of_answers.ensures) ∙ z);
-    }
+splits_tell-requires c = answers-many _ _ (good _ c.in_ok-answers_tell.ensures)
 
 pub returns : goal.returns
 unfolding answered_told
 returns c =
-    rw (← c.data_count-n.ensures, ← c.changes_tell-of_changes.ensures, ← c.answers_tell-of_answers.ensures, ← c.splits_tell.ensures)
-    (sym (then-second _ _ c.if-of_changes-ne0.false ∙ then-second _ _ c.if-of_answers-ne0.false))
+    rw (← c.keys_of-keys.ensures.n_value)
+    (next _ _ _ c.in_ok-changes_tell.ensures (next _ _ _ c.in_ok-answers_tell.ensures c.splits_tell.ensures))

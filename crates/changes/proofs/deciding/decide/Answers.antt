@@ -1,18 +1,22 @@
 -- Reading, then the three.
-use mathlib.Core.Path.{sym, ◌∙◌}
+use Rattle.std.specs.Prelude.{Err}
+use mathlib.Core.Path.{◌≡◌}
+use borrow.Author.Rules.{rules}
 use Rattle.kinds.specs.Kinds.{EB11}
-use Rattle.answers.proofs.Refusals.{number_of, then-first, then-second}
+use Rattle.answers.proofs.Tellings.{first, next, good}
 use Rattle.reader.proofs.Exact.{accepted-meets}
 use Rattle.changes.specs.Deciding.{decided}
 use Rattle.changes.proofs.deciding.decide.Goals as goal
 
-pub returns-then-of_reading-ne0 : goal.returns-then-of_reading-ne0
+pub returns-in_err-read_as : goal.returns-in_err-read_as
 unfolding decided
-returns-then-of_reading-ne0 c = rw (← c.read_as-of_reading.ensures) (sym (then-first _ _ c.if-of_reading-ne0.true))
+returns-in_err-read_as c =
+    let e : c.from_residual.result ≡ Err c.in_err-read_as.field-0.0 = search rules in
+    rw e (first _ _ _ c.in_err-read_as.ensures)
 
 pub answered_tells-requires : goal.answered_tells-requires
-answered_tells-requires c = accepted-meets EB11 _ (number_of (sym c.read_as-of_reading.ensures) ∙ c.if-of_reading-ne0.false)
+answered_tells-requires c = accepted-meets EB11 _ (good _ c.in_ok-read_as.ensures)
 
 pub returns : goal.returns
 unfolding decided
-returns c = rw (← c.read_as-of_reading.ensures) (c.answered_tells.ensures ∙ sym (then-second _ _ c.if-of_reading-ne0.false))
+returns c = next _ _ _ c.in_ok-read_as.ensures c.answered_tells.ensures

@@ -1,60 +1,52 @@
 -- The decision, then the room; only then is anything stored.
-use mathlib.Core.Path.{sym, ◌∙◌}
+use Rattle.std.specs.Prelude.{Err}
+use mathlib.Core.Path.{◌≡◌, refl}
 use native.Mathlib.Omega.{arith}
-use Rattle.answers.proofs.Refusals.{number_of}
+use borrow.Author.Rules.{rules}
+use Rattle.answers.specs.Answers.{accepted, refused}
+use Rattle.answers.specs.Refusing.{told_by}
 use Rattle.answers.proofs.Stored.{told-refused, told-8, told-good}
+use Rattle.answers.proofs.Tellings.{told-refuses, good}
 use Rattle.changes.specs.Deciding.{decided}
-use Rattle.changes.proofs.Told.{decided-few, decided-zero}
 use Rattle.changes_writer.specs.Building.{file_for}
 use Rattle.changes_writer.specs.Writing.{write_of, room_after, write_told, written}
 use Rattle.changes_writer.proofs.Ready.{decided-ready, size_is}
 use Rattle.changes_writer.proofs.writing.write.Goals as goal
 
-pub returns-then-answer-ne0 : goal.returns-then-answer-ne0
+pub returns-in_err-decide : goal.returns-in_err-decide
 unfolding write_of room_after write_told written
-returns-then-answer-ne0 c =
-    let q = told-refused (decided c.args.file.now c.args.answers.now) (file_for c.args.file.now c.args.answers.now) c.args.room.now _ c.decide-answer.ensures c.if-answer-ne0.true in
+returns-in_err-decide c =
+    let a = c.args in
+    let r = c.in_err-decide.field-0.0 in
+    let e : c.from_residual.result ≡ Err r = search rules in
+    let q = told-refused (decided a.file.now a.answers.now) (file_for a.file.now a.answers.now) a.room.now (told_by r) c.in_err-decide.ensures (told-refuses r) in
     record {
-      value = q.0;
+      value = rw e q.0;
       room_after = q.1;
     }
 
-pub overflow_mul-size : goal.overflow_mul-size
-overflow_mul-size c =
-    let z = number_of (sym c.decide-answer.ensures) ∙ c.if-answer-ne0.false in
-    omega (arith, c.refused_count-m.ensures.upper_bound, decided-few _ _ z)
-
-pub overflow_add-size : goal.overflow_add-size
-overflow_add-size c =
-    let z = number_of (sym c.decide-answer.ensures) ∙ c.if-answer-ne0.false in
-    omega (arith, c.refused_count-m.ensures.upper_bound, decided-few _ _ z)
+pub invariant_of-reply : goal.invariant_of-reply
+invariant_of-reply c = record { answered = decided-ready _ _ (good _ c.in_ok-decide.ensures) }
 
 pub returns-then-room-size : goal.returns-then-room-size
 unfolding write_of room_after write_told written
 returns-then-room-size c =
-    let z = number_of (sym c.decide-answer.ensures) ∙ c.if-answer-ne0.false in
-    let e = size_is c.args.file.now c.args.answers.now z _ c.refused_count-m.ensures.value in
-    let q = told-8 (decided c.args.file.now c.args.answers.now) (file_for c.args.file.now c.args.answers.now) c.args.room.now _ z (omega (arith, e, c.if-room-size.true)) c.refused.ensures in
+    let a = c.args in
+    let z = good _ c.in_ok-decide.ensures in
+    let e = size_is a.file.now a.answers.now z _ c.refused_count.ensures.value in
+    let q = told-8 (decided a.file.now a.answers.now) (file_for a.file.now a.answers.now) a.room.now (refused 8) z (omega (arith, e, c.if-room-size.true)) refl in
     record {
       value = q.0;
       room_after = q.1;
-    }
-
-pub put-requires : goal.put-requires
-put-requires c =
-    let z = number_of (sym c.decide-answer.ensures) ∙ c.if-answer-ne0.false in
-    record {
-      answered = decided-ready _ _ z;
-      m_value = c.refused_count-m.ensures.value;
-      m_in_bounds = omega (arith, c.if-room-size.false);
     }
 
 pub returns : goal.returns
 unfolding write_of room_after write_told written
 returns c =
-    let z = number_of (sym c.decide-answer.ensures) ∙ c.if-answer-ne0.false in
-    let e = size_is c.args.file.now c.args.answers.now z _ c.refused_count-m.ensures.value in
-    let q = told-good (decided c.args.file.now c.args.answers.now) (file_for c.args.file.now c.args.answers.now) c.args.room.now _ _ _ z (omega (arith, e, c.if-room-size.false)) (c.decide-answer.ensures ∙ decided-zero _ _ z) e c.put.ensures in
+    let a = c.args in
+    let z = good _ c.in_ok-decide.ensures in
+    let e = size_is a.file.now a.answers.now z _ c.refused_count.ensures.value in
+    let q = told-good (decided a.file.now a.answers.now) (file_for a.file.now a.answers.now) a.room.now accepted _ _ z (omega (arith, e, c.if-room-size.false)) refl e c.put.ensures in
     record {
       value = q.0;
       room_after = q.1;

@@ -1,60 +1,79 @@
 -- One stage after the other.
-use mathlib.Core.Path.{sym, ◌∙◌, ap}
-use Rattle.answers.proofs.Refusals.{number_of}
+use Rattle.std.proofs.Common.{rules, ◌≡◌, sym, ◌∙◌}
+use Rattle.std.specs.Prelude.{Ok, Err}
+use Rattle.answers.specs.Answers.{on_side}
+use Rattle.answers.specs.Refusing.{answer_of}
+use Rattle.answers.specs.OfTwo.{told_of_two}
+use Rattle.answers.specs.declared.of_two.OfTwo.TheVariants.{Both}
+use Rattle.answers.proofs.Tellings.{bad, good, bad-two, first-two}
 use Rattle.evidence.proofs.Looked.{read-good, read_all, read-keys, records-few, place_at, first-inside}
-use Rattle.evidence.specs.declared.reading.Looked.{Looked}
-use Rattle.consent.proofs.Stages.{by-enrolments, by-evidence, by-headers, by-records, header-there, block-there}
+use Rattle.consent.specs.Comparing.{compare_of}
+use Rattle.consent.proofs.Stages.{by-evidence, by-headers, by-records, header-there, block-there}
 use Rattle.consent.proofs.comparing.compare.Goals as goal
 
-pub returns-then-of_enrolments-ne0 : goal.returns-then-of_enrolments-ne0
-returns-then-of_enrolments-ne0 c =
-    let a = c.args in
-    let e = c.read_as-of_enrolments.ensures in
-    rw (c.on_side.ensures, e) (sym (by-enrolments a.exempt a.enrolments.now a.evidence.now (λ z. c.if-of_enrolments-ne0.true (number_of e ∙ z))))
+pub returns-in_err-map_err : goal.returns-in_err-map_err
+unfolding compare_of
+returns-in_err-map_err c =
+    let e : c.from_residual.result ≡ Err c.in_err-map_err.field-0.0 = search rules in
+    let told : told_of_two c.in_err-map_err.field-0.0 ≡ on_side 1 (answer_of c.read_as.result) = search rules in
+    rw e (first-two _ _ _ (rw c.read_as.ensures at told))
 
-pub returns-then-of_evidence-ne0 : goal.returns-then-of_evidence-ne0
-returns-then-of_evidence-ne0 c =
+pub returns-in_err-m : goal.returns-in_err-m
+returns-in_err-m c =
     let a = c.args in
-    let one = number_of (sym c.read_as-of_enrolments.ensures) ∙ c.if-of_enrolments-ne0.false in
-    let e = ap (λ (l : Looked). l.answer) c.look-looked.ensures.value in
-    rw (c.on_side-then-of_evidence-ne0.ensures, e) (sym (by-evidence a.exempt a.enrolments.now a.evidence.now one (λ z. c.if-of_evidence-ne0.true (number_of e ∙ z))))
+    let e : c.from_residual-in_err-m.result ≡ Err c.in_err-m.field-0.0 = search rules in
+    let one : (answer_of c.read_as.result).number ≡ 0 = search rules in
+    let told : told_of_two c.in_err-m.field-0.0 ≡ on_side 2 (answer_of c.look.result) = search rules in
+    let side = rw c.look.ensures.answer_value at told in
+    rw e (side ∙ sym (by-evidence a.exempt a.enrolments.now a.evidence.now (rw c.read_as.ensures at one) (bad-two _ _ side)))
 
-pub headers_tell-of_headers-requires : goal.headers_tell-of_headers-requires
-headers_tell-of_headers-requires c =
+pub headers_tell-requires : goal.headers_tell-requires
+headers_tell-requires c =
     let a = c.args in
-    let one = number_of (sym c.read_as-of_enrolments.ensures) ∙ c.if-of_enrolments-ne0.false in
-    let two = number_of (sym (ap (λ (l : Looked). l.answer) c.look-looked.ensures.value)) ∙ c.if-of_evidence-ne0.false in
+    let one : (answer_of c.read_as.result).number ≡ 0 = search rules in
+    let two : (answer_of c.look.result).number ≡ 0 = search rules in
     record {
-      in_bounds = header-there a.exempt a.enrolments.now a.evidence.now one;
-      in_bounds_2 = block-there a.exempt a.enrolments.now a.evidence.now one two;
+      in_bounds = header-there a.exempt a.enrolments.now a.evidence.now (rw c.read_as.ensures at one);
+      in_bounds_2 = block-there a.exempt a.enrolments.now a.evidence.now (rw c.read_as.ensures at one) (rw c.look.ensures.answer_value at two);
     }
 
-pub returns-then-of_headers-ne0 : goal.returns-then-of_headers-ne0
-returns-then-of_headers-ne0 c =
+pub returns-in_err-headers_tell : goal.returns-in_err-headers_tell
+returns-in_err-headers_tell c =
     let a = c.args in
-    let one = number_of (sym c.read_as-of_enrolments.ensures) ∙ c.if-of_enrolments-ne0.false in
-    let two = number_of (sym (ap (λ (l : Looked). l.answer) c.look-looked.ensures.value)) ∙ c.if-of_evidence-ne0.false in
-    let h = c.headers_tell-of_headers.ensures in
-    h ∙ sym (by-headers a.exempt a.enrolments.now a.evidence.now one two (λ z. c.if-of_headers-ne0.true (number_of h ∙ z)))
+    let e : c.from_residual-in_err-headers_tell.result ≡ Err (Both c.in_err-headers_tell.field-0.0) = search rules in
+    let one : (answer_of c.read_as.result).number ≡ 0 = search rules in
+    let two : (answer_of c.look.result).number ≡ 0 = search rules in
+    let told = c.in_err-headers_tell.ensures in
+    rw e (told ∙ sym (by-headers a.exempt a.enrolments.now a.evidence.now (rw c.read_as.ensures at one) (rw c.look.ensures.answer_value at two) (bad _ _ told)))
 
 pub records_tell-requires : goal.records_tell-requires
 records_tell-requires c =
     let a = c.args in
-    let two = number_of (sym (ap (λ (l : Looked). l.answer) c.look-looked.ensures.value)) ∙ c.if-of_evidence-ne0.false in
-    let all = read_all a.exempt a.evidence.now two in
-    let count = ap (λ (l : Looked). l.count) c.look-looked.ensures.value in
+    let s = a.evidence.now in
+    let found : c.look.result ≡ Ok c.in_ok-m.m = search rules in
+    let k = c.look.ensures in
+    let two = good _ (rw found at k.answer_value) in
+    let count = rw found at k.count_value in
+    let all = read_all a.exempt s two in
     record {
-      m_le_limit = rw (count, all) (records-few a.exempt a.evidence.now (read-good a.exempt a.evidence.now two).1.1);
+      m_le_limit = rw (count, all) (records-few a.exempt s (read-good a.exempt s two).1.1);
       m_value = count ∙ all;
-      evidence_value = read-keys a.exempt a.evidence.now two;
-      by_index = λ i l. rw c.look-looked.ensures.places_after (place_at a.exempt a.evidence.now _ i (rw (← count) l));
-      by_index_2 = λ i l. first-inside a.evidence.now i (rw (← all, ← count) l);
+      evidence_value = read-keys a.exempt s two;
+      by_index = λ i l. rw k.places_after (place_at a.exempt s _ i (rw (← count) l));
+      by_index_2 = λ i l. first-inside s i (rw (← all, ← count) l);
     }
+
+pub returns-in_err-records_tell : goal.returns-in_err-records_tell
+returns-in_err-records_tell c =
+    let a = c.args in
+    let e : c.from_residual-in_err-records_tell.result ≡ Err (Both c.in_err-records_tell.field-0.0) = search rules in
+    let one : (answer_of c.read_as.result).number ≡ 0 = search rules in
+    let two : (answer_of c.look.result).number ≡ 0 = search rules in
+    rw e (c.in_err-records_tell.ensures ∙ sym (by-records a.exempt a.enrolments.now a.evidence.now (rw c.read_as.ensures at one) (rw c.look.ensures.answer_value at two) (good _ c.in_ok-headers_tell.ensures)))
 
 pub returns : goal.returns
 returns c =
     let a = c.args in
-    let one = number_of (sym c.read_as-of_enrolments.ensures) ∙ c.if-of_enrolments-ne0.false in
-    let two = number_of (sym (ap (λ (l : Looked). l.answer) c.look-looked.ensures.value)) ∙ c.if-of_evidence-ne0.false in
-    let three = number_of (sym c.headers_tell-of_headers.ensures) ∙ c.if-of_headers-ne0.false in
-    c.records_tell.ensures ∙ sym (by-records a.exempt a.enrolments.now a.evidence.now one two three)
+    let one : (answer_of c.read_as.result).number ≡ 0 = search rules in
+    let two : (answer_of c.look.result).number ≡ 0 = search rules in
+    c.in_ok-records_tell.ensures ∙ sym (by-records a.exempt a.enrolments.now a.evidence.now (rw c.read_as.ensures at one) (rw c.look.ensures.answer_value at two) (good _ c.in_ok-headers_tell.ensures))

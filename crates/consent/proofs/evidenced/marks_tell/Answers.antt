@@ -1,37 +1,19 @@
--- The loop looks for the first that has no mark.
-use mathlib.Core.Path.{◌≡◌, sym, ◌∙◌}
-use native.Mathlib.Omega.{arith}
-use Prim.Native.Nat.{◌+◌}
-use native.Mathlib.Nat.{le_antisymm}
-use borrow.Author.Tests.{eq-eqb, ne_eqb}
-use Rattle.laws.proofs.Leasts.{least_start}
-use Rattle.answers.proofs.Refusals.{number_of, told_more, told-stop, told-end}
-use Rattle.answers.specs.Answers.{accepted, refused_at}
-use Rattle.consent.specs.Marks.{unmarked_told}
+-- The first that has no mark, as `position` finds it.
+use Rattle.std.proofs.Common.{rules, tests, not, sym, ◌∙◌}
+use Rattle.std.specs.Prelude.{Some, None}
+use Rattle.std.proofs.lemmas.Iterator.{YieldsList-from_slice}
+use Rattle.std.proofs.lemmas.Iterator.Search.{position_from_yields_List}
+use Rattle.consent.proofs.Marked.{marks-told}
 use Rattle.consent.proofs.evidenced.marks_tell.Goals as goal
 
-pub loop-j-init : goal.loop-j-init
-loop-j-init c = (omega arith, least_start _)
-
-pub returns-then-marks-j-eq0 : goal.returns-then-marks-j-eq0
-unfolding unmarked_told
-returns-then-marks-j-eq0 c =
-    let l = c.loop-j in
-    let a = c.args in
-    let here : unmarked_told a.marks.now l.j ≡ refused_at 21 (l.j + 1) 6 0x30303030 = rw (eq-eqb _ _ c.if-marks-j-eq0.true) in
-    c.refused_at.ensures ∙ sym (told-stop (unmarked_told a.marks.now) l.j a.m c.loop-j-test.true l.invariant.1 (λ z. absurd (omega (arith, number_of (sym here) ∙ z))) ∙ here)
-
-pub loop-j-preserved : goal.loop-j-preserved
-unfolding unmarked_told
-loop-j-preserved c =
-    let l = c.loop-j in
-    let a = c.args in
-    let here : unmarked_told a.marks.now l.j ≡ accepted = rw (ne_eqb _ _ c.if-marks-j-eq0.false) in
-    (omega (arith, c.loop-j-test.true), told_more (unmarked_told a.marks.now) l.j l.invariant.1 (number_of here))
+pub returns-in-Some : goal.returns-in-Some
+returns-in-Some c =
+    let marks = c.args.marks.now in
+    let found = position_from_yields_List not _ _ c.position.result c.position.ensures.ran (YieldsList-from_slice marks cc) (λ x b q k. search (rules, tests)) in
+    marks-told marks (Some c.in-Some.j) (sym c.in-Some.is ∙ found)
 
 pub returns : goal.returns
 returns c =
-    let l = c.loop-j in
-    let a = c.args in
-    let n : l.j ≡ a.m = le_antisymm l.invariant.0 c.loop-j-test.false in
-    c.accepted.ensures ∙ sym (told-end (unmarked_told a.marks.now) a.m (rw n at l.invariant.1))
+    let marks = c.args.marks.now in
+    let found = position_from_yields_List not _ _ c.position.result c.position.ensures.ran (YieldsList-from_slice marks cc) (λ x b q k. search (rules, tests)) in
+    marks-told marks None (sym c.in_default.is ∙ found)

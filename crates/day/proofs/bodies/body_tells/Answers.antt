@@ -1,24 +1,22 @@
--- Reading, then the name.
-use mathlib.Core.Path.{sym, ◌∙◌}
+-- Reading first, then the name.
+use Rattle.std.specs.Prelude.{Err}
+use mathlib.Core.Path.{◌≡◌}
+use borrow.Author.Rules.{rules}
 use native.Mathlib.Omega.{arith}
-use Rattle.answers.proofs.Refusals.{number_of, then-first, then-second}
+use Rattle.answers.proofs.Tellings.{first, next, good}
 use Rattle.day.specs.Bodies.{body_told}
 use Rattle.day.proofs.Body.{good-long}
 use Rattle.day.proofs.bodies.body_tells.Goals as goal
 
-pub returns-then-of_reading-ne0 : goal.returns-then-of_reading-ne0
+pub returns-in_err-read_daily : goal.returns-in_err-read_daily
 unfolding body_told
-returns-then-of_reading-ne0 c =
-    let e = rw c.word.ensures at c.read_daily-of_reading.ensures in
-    e ∙ sym (then-first _ _ (λ z. c.if-of_reading-ne0.true (number_of e ∙ z)))
+returns-in_err-read_daily c =
+    let e : c.from_residual.result ≡ Err c.in_err-read_daily.field-0.0 = search rules in
+    rw (e, ← c.word.ensures) (first _ _ _ c.in_err-read_daily.ensures)
 
 pub name_tells-requires : goal.name_tells-requires
-name_tells-requires c =
-    let e = rw c.word.ensures at c.read_daily-of_reading.ensures in
-    omega (arith, good-long _ _ (number_of (sym e) ∙ c.if-of_reading-ne0.false))
+name_tells-requires c = omega (arith, good-long _ _ (good _ c.in_ok-read_daily.ensures))
 
 pub returns : goal.returns
 unfolding body_told
-returns c =
-    let e = rw c.word.ensures at c.read_daily-of_reading.ensures in
-    c.name_tells.ensures ∙ sym (then-second _ _ (number_of (sym e) ∙ c.if-of_reading-ne0.false))
+returns c = rw (← c.word.ensures) (next _ _ _ c.in_ok-read_daily.ensures c.name_tells.ensures)

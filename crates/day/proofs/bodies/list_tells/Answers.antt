@@ -1,23 +1,26 @@
 -- The tests in their order.
 use mathlib.Core.Path.{sym, ◌∙◌}
 use native.Mathlib.Nat.{le_of_eq}
-use Rattle.day.proofs.Listed.{list-31, list-32, list-33}
+use Rattle.day.proofs.Listed.{list-31, repeated-told, distinct-told}
 use Rattle.day.proofs.bodies.list_tells.Goals as goal
 
-pub returns-then-i-n : goal.returns-then-i-n
-returns-then-i-n c = rw (← c.accepted.ensures) c.refused_at.ensures ∙ sym (list-32 _ _ _ _ (sym c.total.ensures.value ∙ c.if-total-bodies.true) _ c.first_repeat-i.ensures c.if-i-n.true)
+pub returns-then-total-bodies : goal.returns-then-total-bodies
+returns-then-total-bodies c = sym (list-31 _ _ _ _ (λ q. c.if-total-bodies.true (c.total.ensures.value ∙ q)))
 
 pub bodies_tell-requires : goal.bodies_tell-requires
 bodies_tell-requires c =
     record {
-      inside = c.requires.inside;
-      n_le_most = c.requires.n_le_most;
-      n_in_bounds = c.requires.n_in_bounds;
-      n_in_bounds_2 = le_of_eq (sym c.total.ensures.value ∙ c.if-total-bodies.true);
+      few = c.requires.few;
+      one_each = c.requires.one_each;
+      n_in_bounds = le_of_eq (sym c.total.ensures.value ∙ c.if-total-bodies.false);
     }
 
-pub returns-then-total-bodies : goal.returns-then-total-bodies
-returns-then-total-bodies c = c.bodies_tell.ensures ∙ sym (list-33 _ _ _ _ (sym c.total.ensures.value ∙ c.if-total-bodies.true) _ c.first_repeat-i.ensures c.if-i-n.false)
+pub returns-in-Some : goal.returns-in-Some
+returns-in-Some c =
+    let all = sym c.total.ensures.value ∙ c.if-total-bodies.false in
+    sym (repeated-told _ _ _ _ all _ c.requires.one_each _ (sym c.in-Some.is ∙ c.first_repeat.ensures))
 
 pub returns : goal.returns
-returns c = c.refused.ensures ∙ sym (list-31 _ _ _ _ (λ e. c.if-total-bodies.false (c.total.ensures.value ∙ e)))
+returns c =
+    let all = sym c.total.ensures.value ∙ c.if-total-bodies.false in
+    c.bodies_tell.ensures ∙ sym (distinct-told _ _ _ _ all _ c.requires.one_each (sym c.in_default.is ∙ c.first_repeat.ensures))

@@ -1,11 +1,11 @@
--- A kind of a day file first.
+-- The kind first.
 use Rattle.day.specs.Bodies.{read_daily}
 use Rattle.day.proofs.bodies.read_daily.Goals as goal
 
-pub returns-in-Is : goal.returns-in-Is
+pub returns-in_default : goal.returns-in_default
 unfolding read_daily
-returns-in-Is c = rw (← c.daily_of-named.ensures, c.in-Is.is) c.read_as.ensures
+returns-in_default c = rw (← c.daily_of.ensures, c.in_default.is)
 
-pub returns-in-Unknown : goal.returns-in-Unknown
+pub returns : goal.returns
 unfolding read_daily
-returns-in-Unknown c = rw (← c.daily_of-named.ensures, c.in-Unknown.is) c.refused.ensures
+returns c = rw (← c.daily_of.ensures, c.in-Some.is) c.read_as.ensures

@@ -1,34 +1,32 @@
--- One length after the other.
-use mathlib.Core.Path.{◌≡◌, sym, ◌∙◌, ap}
-use native.Mathlib.Omega.{arith}
+-- The kit's sum of a list.
+use Rattle.std.proofs.Common.{◌≤◌, ◌*◌, ◌≡◌, refl, ◌∙◌, ℕ, List, length, arith}
+use Rattle.std.specs.List as list
+use Rattle.std.proofs.lemmas.Iterator.{YieldsList-from_slice}
+use Rattle.std.proofs.lemmas.Iterator.Consumers.{sum_from_yields_List, fits_from_yields_list}
+use native.Mathlib.Nat.{le_of_lt}
 use Rattle.laws.specs.Sum.{sum}
-use Rattle.laws.proofs.Sums.{sum-start, sum_more}
-use Rattle.day.specs.Bodies.{size_at}
+use Rattle.laws.proofs.Positions.{sum_places}
+use Rattle.laws.proofs.Sums.{sum_bound}
+use Rattle.day.specs.Contents.{length_end}
+use Rattle.day.specs.Bodies.{size_at, Short}
 use Rattle.day.proofs.bodies.total.Goals as goal
 
-pub loop-i-init : goal.loop-i-init
-loop-i-init c = let a = c.args in (omega arith, sym (sum-start (size_at a.lengths.now)), omega arith)
-
-pub overflow_add-sum : goal.overflow_add-sum
+by-place : (lengths : List ℕ) → list.sum lengths ≡ sum (size_at lengths) (length lengths)
 unfolding size_at
-overflow_add-sum c = omega (arith, c.loop-i.invariant.2, c.requires.short c.loop-i.i c.loop-i-test.true, c.loop-i.invariant.0, c.requires.n_le_most)
+by-place lengths = sum_places (λ x. x) lengths 0
 
-pub loop-i-preserved : goal.loop-i-preserved
-unfolding size_at
-loop-i-preserved c =
-    let l = c.loop-i in
-    let a = c.args in
-    let short = c.requires.short l.i c.loop-i-test.true in (
-      omega (arith, c.loop-i-test.true),
-      sym (sum_more (size_at a.lengths.now) l.i ∙ rw l.invariant.1),
-      omega (arith, l.invariant.2, short),
-    )
+bounded : (lengths : List ℕ) → Short (size_at lengths) (length lengths) → sum (size_at lengths) (length lengths) ≤ length lengths * length_end
+bounded lengths short = sum_bound (size_at lengths) length_end (length lengths) (λ i h. le_of_lt (short i h))
+
+pub sum-requires-clause-fits : goal.sum-requires-clause-fits
+sum-requires-clause-fits c =
+    fits_from_yields_list _ _ (YieldsList-from_slice c.args.lengths.now c.iter.ensures.rest)
+    (rw (by-place c.args.lengths.now) (omega (arith, bounded c.args.lengths.now c.requires.short, c.requires.few)))
 
 pub returns : goal.returns
 returns c =
-    let l = c.loop-i in
-    let e : l.i ≡ c.args.n = omega (arith, l.invariant.0, c.loop-i-test.false) in
-    record {
-      value = l.invariant.1 ∙ ap (sum (size_at c.args.lengths.now)) e;
-      upper_bound = omega (arith, l.invariant.2, e);
-    }
+    let e = sum_from_yields_List _ _ c.sum.ensures.ran (YieldsList-from_slice c.args.lengths.now c.iter.ensures.rest) ∙ by-place c.args.lengths.now in
+    rw e (record {
+      value = refl;
+      upper_bound = bounded c.args.lengths.now c.requires.short;
+    })

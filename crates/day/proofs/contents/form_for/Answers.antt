@@ -1,32 +1,18 @@
--- The first length that five digits do not say.
-use mathlib.Core.Path.{◌≡◌, refl}
-use native.Mathlib.Omega.{arith}
-use borrow.Author.Tests.{le-leb, lt-leb}
-use Rattle.laws.proofs.Leasts.{least_start, least_more, none_true, none-false}
-use Rattle.day.specs.Contents.{long_at, form_for}
-use Rattle.day.specs.Bodies.{size_at}
+-- Whether any length is long.
+use Rattle.std.proofs.Common.{rules, tests, ◌≡◌}
+use Rattle.std.specs.List.{list_any}
+use Rattle.std.proofs.lemmas.Iterator.{YieldsList-from_slice}
+use Rattle.std.proofs.lemmas.Iterator.Search.{any_from_yields_List}
+use lib.Dec.{leb}
+use Rattle.day.proofs.Forms.{form-any}
 use Rattle.day.proofs.contents.form_for.Goals as goal
 
-pub loop-i-init : goal.loop-i-init
-loop-i-init c = (omega arith, least_start _)
-
-pub offset_bounds-lengths-i : goal.offset_bounds-lengths-i
-offset_bounds-lengths-i c = omega (arith, c.loop-i-test.true, c.requires)
-
-pub bounds-lengths-i : goal.bounds-lengths-i
-bounds-lengths-i c = omega (arith, c.loop-i-test.true, c.requires)
-
-pub returns-then-lengths-i-ge-FIVE_DIGITS : goal.returns-then-lengths-i-ge-FIVE_DIGITS
-unfolding form_for long_at size_at
-returns-then-lengths-i-ge-FIVE_DIGITS c = let l = c.loop-i in rw (none-false _ l.i _ c.loop-i-test.true l.invariant.1 (le-leb 100000 _ c.if-lengths-i-ge-FIVE_DIGITS.true)) refl
-
-pub loop-i-preserved : goal.loop-i-preserved
-unfolding long_at size_at
-loop-i-preserved c = let l = c.loop-i in (omega (arith, c.loop-i-test.true), least_more _ l.i l.invariant.1 (lt-leb 100000 _ c.if-lengths-i-ge-FIVE_DIGITS.false))
+pub returns-then-any : goal.returns-then-any
+returns-then-any c =
+    let any : c.any.result ≡ list_any (λ x. leb 100000 x) c.args.lengths.now = any_from_yields_List (λ x. leb 100000 x) _ _ c.any.result c.any.ensures.ran (YieldsList-from_slice c.args.lengths.now c.iter.ensures.rest) (λ x b q k. search (rules, tests)) in
+    rw (← any, c.if-any.true) at (form-any c.args.lengths.now)
 
 pub returns : goal.returns
-unfolding form_for
 returns c =
-    let l = c.loop-i in
-    let e : c.args.n ≡ l.i = omega (arith, l.invariant.0, c.loop-i-test.false) in
-    rw (e, none_true _ l.i l.invariant.1) refl
+    let any : c.any.result ≡ list_any (λ x. leb 100000 x) c.args.lengths.now = any_from_yields_List (λ x. leb 100000 x) _ _ c.any.result c.any.ensures.ran (YieldsList-from_slice c.args.lengths.now c.iter.ensures.rest) (λ x b q k. search (rules, tests)) in
+    rw (← any, c.if-any.false) at (form-any c.args.lengths.now)

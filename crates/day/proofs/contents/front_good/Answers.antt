@@ -4,10 +4,10 @@ use Rattle.text.specs.Characters.{digits}
 use Rattle.day.specs.Contents.{front_good}
 use Rattle.day.proofs.contents.front_good.Goals as goal
 
-pub returns-then-file-lt-FRONT : goal.returns-then-file-lt-FRONT
-unfolding front_good
-returns-then-file-lt-FRONT c = rw (lt-leb 3 _ c.if-file-lt-FRONT.true)
-
-pub returns : goal.returns
+pub returns-then-file-ge-FRONT : goal.returns-then-file-ge-FRONT
 unfolding front_good digits
-returns c = rw (le-leb 3 _ c.if-file-lt-FRONT.false, ← c.part.ensures.result_value) c.each.ensures
+returns-then-file-ge-FRONT c = rw (le-leb 3 _ c.if-file-ge-FRONT.true, ← c.part.ensures.result_value) c.each.ensures
+
+pub returns-else-file-ge-FRONT : goal.returns-else-file-ge-FRONT
+unfolding front_good
+returns-else-file-ge-FRONT c = rw (lt-leb 3 _ c.if-file-ge-FRONT.false)

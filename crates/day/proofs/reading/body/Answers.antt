@@ -1,111 +1,77 @@
 -- A body lies behind the contents and the lengths before it.
-use Prim.Native.Nat.{◌≤◌}
-use mathlib.Core.Path.{sym, ◌∙◌}
+use Rattle.std.specs.Prelude.{Err}
+use Prim.Native.Nat.{◌-◌, ◌≤◌}
+use mathlib.Core.Path.{◌≡◌, sym, ◌∙◌}
+use borrow.Author.Rules.{rules}
 use native.Mathlib.Nat.{le_trans}
 use native.Mathlib.Omega.{arith}
 use Rattle.answers.proofs.Lies.{one-true}
-use Rattle.answers.proofs.OfDay.{day-number}
-use Rattle.day.specs.First.{Contents}
-use Rattle.day.proofs.Forms.{entries-small}
-use Rattle.day.proofs.Contained.{size_room, size-short}
-use Rattle.day.proofs.Told.{read-contents, shown-refused, shown-from, shown-nowhere}
+use Rattle.day.proofs.Contained.{size_room, size_in, taken-at, taken-long, taken-short}
+use Rattle.day.proofs.Told.{start-by, shown-refused, shown-from, shown-nowhere}
 use Rattle.day.proofs.reading.body.Goals as goal
 
-pub returns-then-answer-ne0 : goal.returns-then-answer-ne0
-returns-then-answer-ne0 c =
-    let e = c.look-answer.ensures in
-    rw e (shown-refused _ _ (λ z. c.if-answer-ne0.true (day-number e ∙ z)))
+pub returns-in_err-contents : goal.returns-in_err-contents
+returns-in_err-contents c =
+    let e : c.from_residual.result ≡ Err c.in_err-contents.field-0.0 = search rules in
+    rw e (shown-refused _ _ _ c.in_err-contents.ensures.told)
 
-pub count-n-requires : goal.count-n-requires
-count-n-requires c =
-    let listed : Contents c.args.file.now =
-    read-contents _ (day-number (sym c.look-answer.ensures) ∙ c.if-answer-ne0.false) in
-    (listed).fewest
+pub returns-then-not-is_one : goal.returns-then-not-is_one
+returns-then-not-is_one c =
+    let w = c.in_ok-contents in
+    let count = rw w.ensures.of at w.contents.by_count in
+    shown-nowhere _ _ w.ensures.told (rw (← count) (sym c.is_one.ensures ∙ c.if-not-is_one.true))
 
 pub overflow_sub-i : goal.overflow_sub-i
-overflow_sub-i c =
-    let one : (1 ≤ c.args.number) × (c.args.number ≤ c.count-n.result) =
-    one-true _ _ (sym c.is_one.ensures ∙ c.if-is_one.true) in
-    (one).0
+overflow_sub-i c = (one-true _ _ (sym c.is_one.ensures ∙ c.if-not-is_one.false)).0
 
-pub width_in-width-requires : goal.width_in-width-requires
-width_in-width-requires c =
-    let listed : Contents c.args.file.now =
-    read-contents _ (day-number (sym c.look-answer.ensures) ∙ c.if-answer-ne0.false) in
-    (listed).fewest
+pub slice_bounds-lengths-end : goal.slice_bounds-lengths-end
+slice_bounds-lengths-end c =
+    let w = c.in_ok-contents.contents in
+    let one = one-true _ _ (sym c.is_one.ensures ∙ c.if-not-is_one.false) in
+    rw c.lengths-lengths.ensures (le_trans (omega (arith, one.1)) (size_room w.file.now w.n w.few))
 
-pub lengths-lengths-requires : goal.lengths-lengths-requires
-lengths-lengths-requires c =
-    let listed : Contents c.args.file.now =
-    read-contents _ (day-number (sym c.look-answer.ensures) ∙ c.if-answer-ne0.false) in
-    let l = listed in
-    record {
-      width_value = c.width_in-width.ensures.value;
-      width_bound = c.width_in-width.ensures.upper_bound;
-      n_le_most = rw c.count-n.ensures.value l.few;
-      n_in_bounds = rw (c.width_in-width.ensures.value, c.count-n.ensures.value) l.whole;
-    }
-
-pub overflow_mul-start : goal.overflow_mul-start
-overflow_mul-start c =
-    let w = c.width_in-width in
-    let n = c.count-n in
-    omega (arith, entries-small w.result n.result w.ensures.upper_bound (omega (arith, n.ensures.upper_bound)))
-
-pub overflow_add-start-then-is_one : goal.overflow_add-start-then-is_one
-overflow_add-start-then-is_one c =
-    let w = c.width_in-width in
-    let n = c.count-n in
-    omega (arith, entries-small w.result n.result w.ensures.upper_bound (omega (arith, n.ensures.upper_bound)))
+pub slice_bounds-total-end : goal.slice_bounds-total-end
+slice_bounds-total-end c =
+    let w = c.in_ok-contents.contents in
+    let one = one-true _ _ (sym c.is_one.ensures ∙ c.if-not-is_one.false) in
+    let h : c.args.number - 1 ≤ w.n = omega (arith, one.1) in
+    rw (c.lengths-lengths.ensures, taken-long w.file.now w.n (c.args.number - 1) h w.few)
 
 pub total-requires : goal.total-requires
 total-requires c =
-    let listed : Contents c.args.file.now =
-    read-contents _ (day-number (sym c.look-answer.ensures) ∙ c.if-answer-ne0.false) in
-    let one : (1 ≤ c.args.number) × (c.args.number ≤ c.count-n.result) =
-    one-true _ _ (sym c.is_one.ensures ∙ c.if-is_one.true) in
-    let e = c.count-n.ensures.value in
-    let l = listed in
-    let few = rw (← e) at l.few in
-    let last = (one).1 in
-    let s = c.args.file.now in
-    let n = c.count-n.result in
-    let lengths = c.lengths-lengths.ensures in
-    record {
-      n_le_most = omega (arith, few, last);
-      n_in_bounds = rw lengths (le_trans (omega (arith, last)) (size_room s n few));
-      short = λ i h. rw lengths (size-short s n (rw (← e) at l.whole) i (omega (arith, h, last)));
-    }
-
-pub overflow_add-start-then-is_one-2 : goal.overflow_add-start-then-is_one-2
-overflow_add-start-then-is_one-2 c =
-    let one : (1 ≤ c.args.number) × (c.args.number ≤ c.count-n.result) =
-    one-true _ _ (sym c.is_one.ensures ∙ c.if-is_one.true) in
-    let w = c.width_in-width in
-    let n = c.count-n in
-    omega (arith, entries-small w.result n.result w.ensures.upper_bound (omega (arith, n.ensures.upper_bound)), n.ensures.upper_bound, c.total.ensures.upper_bound, (one).1)
+    let w = c.in_ok-contents.contents in
+    let one = one-true _ _ (sym c.is_one.ensures ∙ c.if-not-is_one.false) in
+    let h : c.args.number - 1 ≤ w.n = omega (arith, one.1) in
+    let whole = rw w.by_form at w.whole in
+    rw (c.lengths-lengths.ensures, taken-long w.file.now w.n (c.args.number - 1) h w.few) (record {
+      few = omega (arith, h, w.few);
+      short = taken-short w.file.now w.n (c.args.number - 1) h whole;
+    })
 
 pub offset_bounds-lengths-i : goal.offset_bounds-lengths-i
 offset_bounds-lengths-i c =
-    let one : (1 ≤ c.args.number) × (c.args.number ≤ c.count-n.result) =
-    one-true _ _ (sym c.is_one.ensures ∙ c.if-is_one.true) in
-    omega (arith, c.count-n.ensures.upper_bound, (one).1)
+    let w = c.in_ok-contents.contents in
+    omega (arith, (one-true _ _ (sym c.is_one.ensures ∙ c.if-not-is_one.false)).1, w.few)
 
 pub bounds-lengths-i : goal.bounds-lengths-i
 bounds-lengths-i c =
-    let listed : Contents c.args.file.now =
-    read-contents _ (day-number (sym c.look-answer.ensures) ∙ c.if-answer-ne0.false) in
-    let one : (1 ≤ c.args.number) × (c.args.number ≤ c.count-n.result) =
-    one-true _ _ (sym c.is_one.ensures ∙ c.if-is_one.true) in
-    let few = rw (← c.count-n.ensures.value) at (listed).few in
-    omega (arith, few, (one).1, (one).0)
-
-pub returns-then-is_one : goal.returns-then-is_one
-returns-then-is_one c =
-    let e = c.look-answer.ensures in
-    rw e (shown-from _ _ _ _ _ _ (day-number (sym e) ∙ c.if-answer-ne0.false) c.width_in-width.ensures.value c.count-n.ensures.value c.lengths-lengths.ensures c.total.ensures.value (sym c.is_one.ensures ∙ c.if-is_one.true))
+    let w = c.in_ok-contents.contents in
+    let one = one-true _ _ (sym c.is_one.ensures ∙ c.if-not-is_one.false) in
+    omega (arith, one.0, one.1, w.few)
 
 pub returns : goal.returns
 returns c =
-    let e = c.look-answer.ensures in
-    rw e (shown-nowhere _ _ _ (day-number (sym e) ∙ c.if-answer-ne0.false) c.count-n.ensures.value (sym c.is_one.ensures ∙ c.if-is_one.false))
+    let w = c.in_ok-contents in
+    let s = c.args.file.now in
+    let n = w.contents.n in
+    let m = c.args.number - 1 in
+    let file = w.ensures.of in
+    let count = rw file at w.contents.by_count in
+    let is = sym c.is_one.ensures ∙ c.if-not-is_one.false in
+    let one = one-true _ _ is in
+    let h : m ≤ n = omega (arith, one.1) in
+    let lengths = rw file at c.lengths-lengths.ensures in
+    let total = rw (lengths, taken-long s n m h w.contents.few) at c.total.ensures.value in
+    shown-from s c.args.number w.ensures.told _ _ (rw (← count) is)
+    (start-by s w.contents.width n m _ _ _ (rw file at w.contents.by_form) count c.end.ensures.value total (taken-at s n m h))
+    (rw lengths (size_in s n m (omega (arith, one.0, one.1))))

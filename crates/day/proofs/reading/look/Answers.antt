@@ -1,74 +1,45 @@
 -- The contents first, then what they list.
-use Prim.Native.Nat.{◌≤◌}
-use mathlib.Core.Path.{sym, ◌∙◌}
-use native.Mathlib.Omega.{arith}
-use lib.ListN.{length}
-use Rattle.day.specs.Contents.{most, entry_at, width_in}
-use Rattle.day.specs.First.{Contents}
-use Rattle.day.proofs.Forms.{entries-small}
-use Rattle.day.proofs.Contained.{contents-good, names-inside, size_room, size-short}
+use Rattle.std.specs.Prelude.{Err}
+use mathlib.Core.Path.{◌≡◌, sym, ◌∙◌}
+use borrow.Author.Rules.{rules}
+use native.Mathlib.Nat.{le_refl}
+use Rattle.day.proofs.Contained.{taken-at, taken-long, taken-short}
 use Rattle.day.proofs.Told.{read-30, read_by}
 use Rattle.day.proofs.reading.look.Goals as goal
 
-pub width_in-width-requires : goal.width_in-width-requires
-width_in-width-requires c =
-    let listed : Contents c.args.file.now =
-    contents-good _ (sym c.good.ensures ∙ c.if-good.true) in
-    (listed).fewest
-
-pub count-n-requires : goal.count-n-requires
-count-n-requires c =
-    let listed : Contents c.args.file.now =
-    contents-good _ (sym c.good.ensures ∙ c.if-good.true) in
-    (listed).fewest
-
-pub lengths-lengths-requires : goal.lengths-lengths-requires
-lengths-lengths-requires c =
-    let listed : Contents c.args.file.now =
-    contents-good _ (sym c.good.ensures ∙ c.if-good.true) in
-    let l = listed in
-    record {
-      width_value = c.width_in-width.ensures.value;
-      width_bound = c.width_in-width.ensures.upper_bound;
-      n_le_most = rw c.count-n.ensures.value l.few;
-      n_in_bounds = rw (c.width_in-width.ensures.value, c.count-n.ensures.value) l.whole;
-    }
-
-pub overflow_mul-n : goal.overflow_mul-n
-overflow_mul-n c =
-    let n = c.count-n in
-    let w = c.width_in-width in
-    omega (arith, entries-small w.result n.result w.ensures.upper_bound (omega (arith, n.ensures.upper_bound)))
-
-pub overflow_add-n : goal.overflow_add-n
-overflow_add-n c =
-    let n = c.count-n in
-    let w = c.width_in-width in
-    omega (arith, entries-small w.result n.result w.ensures.upper_bound (omega (arith, n.ensures.upper_bound)))
+pub returns-in_default-clause-told : goal.returns-in_default-clause-told
+returns-in_default-clause-told c = sym (read-30 _ (sym c.in_default.ensures.good))
 
 pub list_tells-requires : goal.list_tells-requires
 list_tells-requires c =
-    let listed : Contents c.args.file.now =
-    contents-good _ (sym c.good.ensures ∙ c.if-good.true) in
-    let lengths = c.lengths-lengths.ensures in
-    let k = c.count-n.ensures.value in
-    let w = c.width_in-width.ensures.value in
+    let w = c.in-Some.contents in
     let s = c.args.file.now in
-    let n = c.count-n.result in
-    let few : n ≤ most = rw k (listed).few in
-    let whole : entry_at (width_in s) n ≤ length s = rw k (listed).whole in
-    record {
-      inside = rw (c.names.ensures, w) (names-inside s (width_in s) n whole);
-      n_le_most = few;
-      n_in_bounds = rw lengths (size_room s n few);
-      short = λ i h. rw lengths (size-short s n whole i h);
-    }
+    let file = c.in-Some.ensures.of in
+    let all = le_refl w.n in
+    let whole = rw file at w.whole in
+    let form = rw file at w.by_form in
+    rw (rw file at c.lengths-lengths.ensures, taken-long s w.n w.n all w.few) (record {
+      few = w.few;
+      one_each = c.names.ensures.count;
+      short = taken-short s w.n w.n all (rw form at whole);
+    })
 
-pub returns-then-good : goal.returns-then-good
-returns-then-good c =
-    c.list_tells.ensures ∙
-    rw c.names.ensures
-    (read_by _ _ _ _ _ c.width_in-width.ensures.value c.count-n.ensures.value c.lengths-lengths.ensures c.rest-behind.ensures (sym c.good.ensures ∙ c.if-good.true))
+pub returns-in_err-list_tells-clause-told : goal.returns-in_err-list_tells-clause-told
+returns-in_err-list_tells-clause-told c =
+    let w = c.in-Some.contents in
+    let s = c.args.file.now in
+    let file = c.in-Some.ensures.of in
+    let all = le_refl w.n in
+    let e : c.from_residual.result ≡ Err c.in_err-list_tells.field-0.0 = search rules in
+    rw e (
+    rw (rw file at c.lengths-lengths.ensures, taken-long s w.n w.n all w.few, rw file at c.names.ensures.value) at c.in_err-list_tells.ensures ∙
+    read_by s w.width w.n _ _ (rw file at w.by_form) (rw file at w.by_count) (taken-at s w.n w.n all) (c.rest.ensures ∙ rw c.end.ensures.value) (sym c.in-Some.ensures.good))
 
-pub returns : goal.returns
-returns c = c.refused.ensures ∙ sym (read-30 _ (sym c.good.ensures ∙ c.if-good.false))
+pub returns-clause-told : goal.returns-clause-told
+returns-clause-told c =
+    let w = c.in-Some.contents in
+    let s = c.args.file.now in
+    let file = c.in-Some.ensures.of in
+    let all = le_refl w.n in
+    rw (rw file at c.lengths-lengths.ensures, taken-long s w.n w.n all w.few, rw file at c.names.ensures.value) at c.in_ok-list_tells.ensures ∙
+    read_by s w.width w.n _ _ (rw file at w.by_form) (rw file at w.by_count) (taken-at s w.n w.n all) (c.rest.ensures ∙ rw c.end.ensures.value) (sym c.in-Some.ensures.good)

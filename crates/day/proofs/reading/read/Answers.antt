@@ -1,22 +1,22 @@
 -- A refusal counts nothing.
-use mathlib.Core.Path.{sym, ◌∙◌}
-use Rattle.answers.proofs.OfDay.{day-number, day-is, day-not}
-use Rattle.day.specs.Reading.{read_of, counted_of}
-use Rattle.day.proofs.Told.{read-contents}
+use Rattle.std.specs.Prelude.{Err}
+use mathlib.Core.Path.{◌≡◌, refl}
+use borrow.Author.Rules.{rules}
+use Rattle.answers.specs.OfDay.{told_of_day, day_accepted}
+use Rattle.answers.proofs.OfDay.{day-is, day-not}
+use Rattle.answers.proofs.Tellings.{day-refusal}
+use Rattle.day.specs.Reading.{counted_of}
 use Rattle.day.proofs.reading.read.Goals as goal
 
-pub returns-then-answer-ne0 : goal.returns-then-answer-ne0
+pub returns-in_err-look : goal.returns-in_err-look
 unfolding counted_of
-returns-then-answer-ne0 c =
-    let e = c.look-answer.ensures in
-    let a = c.args in
-    rw (e, day-is (read_of a.file.now) (λ z. c.if-answer-ne0.true (day-number e ∙ z)))
-
-pub count-requires : goal.count-requires
-count-requires c = (read-contents _ (day-number (sym c.look-answer.ensures) ∙ c.if-answer-ne0.false)).fewest
+returns-in_err-look c =
+    let r = c.in_err-look.field-0.0 in
+    let e : c.from_residual.result ≡ Err r = search rules in
+    rw (e, ← c.in_err-look.ensures.told, day-is (told_of_day r) (day-refusal r))
 
 pub returns : goal.returns
 unfolding counted_of
 returns c =
-    let e = c.look-answer.ensures in
-    rw (e, c.count.ensures.value, day-not (read_of c.args.file.now) (day-number (sym e) ∙ c.if-answer-ne0.false))
+    let w = c.in_ok-look in
+    rw (← w.ensures.told, day-not day_accepted refl, ← (rw w.ensures.of at w.field-0.by_count))

@@ -1,26 +1,19 @@
--- One length after the other.
-use mathlib.Core.Path.{◌≡◌, sym}
-use native.Mathlib.Omega.{arith}
-use borrow.Author.Tests.{le-leb, lt-leb}
-use lib.ListN.{length}
-use Rattle.laws.proofs.Leasts.{least_start, least_more, none_true, none-false}
+-- Whether any length is too long.
+use Rattle.std.proofs.Common.{rules, tests, ◌≡◌}
+use Rattle.std.specs.List.{list_any}
+use Rattle.std.proofs.lemmas.Iterator.{YieldsList-from_slice}
+use Rattle.std.proofs.lemmas.Iterator.Search.{any_from_yields_List}
+use mathlib.Core.Bool.{not}
+use mathlib.Core.Path.{sym, ap, ◌∙◌}
+use lib.Dec.{leb}
 use Rattle.day.specs.Bodies.{size_at}
+use Rattle.day.specs.Contents.{length_end}
+use Rattle.day.proofs.Forms.{none-any}
 use Rattle.day_writer.specs.Writing.{too_long}
 use Rattle.day_writer.proofs.deciding.lengths_good.Goals as goal
 
-pub loop-i-init : goal.loop-i-init
-loop-i-init c = (omega arith, least_start _)
-
-pub returns-then-lengths-i-ge-END : goal.returns-then-lengths-i-ge-END
-unfolding too_long size_at
-returns-then-lengths-i-ge-END c = let l = c.loop-i in sym (none-false _ l.i _ c.loop-i-test.true l.invariant.1 (le-leb 1000000 _ c.if-lengths-i-ge-END.true))
-
-pub loop-i-preserved : goal.loop-i-preserved
-unfolding too_long size_at
-loop-i-preserved c = let l = c.loop-i in (omega (arith, c.loop-i-test.true), least_more _ l.i l.invariant.1 (lt-leb 1000000 _ c.if-lengths-i-ge-END.false))
-
 pub returns : goal.returns
+unfolding too_long size_at
 returns c =
-    let l = c.loop-i in
-    let e : length c.args.lengths.now ≡ l.i = omega (arith, l.invariant.0, c.loop-i-test.false) in
-    rw e (sym (none_true _ l.i l.invariant.1))
+    let any : c.any.result ≡ list_any (λ x. leb length_end x) c.args.lengths.now = any_from_yields_List (λ x. leb length_end x) _ _ c.any.result c.any.ensures.ran (YieldsList-from_slice c.args.lengths.now c.iter.ensures.rest) (λ x b q k. search (rules, tests)) in
+    ap not any ∙ sym (none-any (λ x. leb length_end x) c.args.lengths.now)

@@ -1,5 +1,4 @@
 -- One entry behind the other.
-use Prim.Native.Nat.{◌-◌, ◌≤◌}
 use mathlib.Core.Path.{◌≡◌}
 use lib.ListN.{length}
 use Rattle.laws.specs.Joined.{joined}
@@ -11,7 +10,5 @@ use Rattle.day_writer.specs.Writing.{name_of}
 use Rattle.day_writer.proofs.storing.put_entries.Given as goal
 
 abbrev pub invariant-loop-i : goal.invariant-loop-i
-invariant-loop-i l = (l.i ≤ length l.lengths) × (length l.room ≡ length l.initial.room) × (l.room ≡ stored front (joined (entry_of l.width (name_of l.names) (size_at l.lengths)) l.i) l.initial.room)
-
-abbrev pub decreases-loop-i : goal.decreases-loop-i
-decreases-loop-i l = length l.lengths - l.i
+invariant-loop-i l =
+    (length l.room ≡ length l.initial.room) × (l.room ≡ stored front (joined (entry_of l.given.width (name_of l.given.names.now) (size_at l.given.lengths.now)) l.i) l.initial.room)

@@ -5,21 +5,9 @@ use Rattle.dues.proofs.ready.date_tells.Goals as goal
 pub returns-then-later : goal.returns-then-later
 unfolding date_tells last_posted
 returns-then-later c =
-    rw (
-      ← c.day.ensures.result_value,
-      ← c.date_start-start.ensures.value,
-      ← c.part.ensures.result_value,
-      ← c.later.ensures,
-      c.if-later.true,
-    ) c.accepted.ensures
+    rw (← c.day.ensures.result_value, ← c.date_start.ensures.value, ← c.part-last.ensures.result_value, ← c.later.ensures, c.if-later.true)
 
-pub returns : goal.returns
+pub returns-else-later : goal.returns-else-later
 unfolding date_tells last_posted
-returns c =
-    rw (
-      ← c.day.ensures.result_value,
-      ← c.date_start-start.ensures.value,
-      ← c.part.ensures.result_value,
-      ← c.later.ensures,
-      c.if-later.false,
-    ) c.refused_at.ensures
+returns-else-later c =
+    rw (← c.day.ensures.result_value, ← c.date_start.ensures.value, ← c.part-last.ensures.result_value, ← c.later.ensures, c.if-later.false)

@@ -5,4 +5,4 @@ use Rattle.dues.proofs.ready.dates_after.Goals as goal
 
 pub returns : goal.returns
 unfolding dates_as
-returns c = c.put.ensures ∙ rw (c.date_start-start.ensures.value, c.day.ensures.result_value)
+returns c = c.put.ensures ∙ rw (c.date_start.ensures.value, c.day.ensures.result_value)

@@ -1,30 +1,17 @@
--- A refusal touches nothing lent.
-use Rattle.dues.specs.Steps.{unless, marking_of, marking_links, marking_room}
+-- The links, then the marks.
+use Rattle.std.proofs.Common.{rules, ◌≡◌, ◌∙◌, ap, ◌++◌, List, ℕ, drop}
+use lib.ListN.{replicate}
+use Rattle.keys.proofs.Chained.{none-cleared, links-cleared}
 use Rattle.payers.specs.Turns.{dues_key}
-use Rattle.keys.proofs.Chained.{none-length, none-cleared, links-cleared}
-use Rattle.answers.proofs.Refusals.{refuses-is, refuses-not}
-use mathlib.Core.Path.{refl, ◌∙◌}
+use Rattle.dues.proofs.Marks.{marks-unmet}
 use Rattle.dues.proofs.steps.marking.Goals as goal
 
-pub returns-then-told-ne0 : goal.returns-then-told-ne0
-unfolding marking_of marking_links marking_room unless
-returns-then-told-ne0 c =
-    let t = c.marking_tells-told in
-    rw (← t.ensures, refuses-is t.result c.if-told-ne0.true) (refl, (refl, refl))
-
-pub chain-requires : goal.chain-requires
-chain-requires c =
-    let p = c.requires in
-    record {
-      inside = p.inside;
-      n_bound = p.few;
-      n_in_bounds = rw (c.clear.ensures, none-length) p.links-room;
-      links_value = none-cleared _ _ c.clear.ensures;
-    }
+pub chain-requires-clause-links_value : goal.chain-requires-clause-links_value
+chain-requires-clause-links_value c = none-cleared _ _ c.clear.ensures
 
 pub returns : goal.returns
-unfolding marking_of marking_links marking_room unless dues_key
+unfolding dues_key
 returns c =
-    let t = c.marking_tells-told in
-    rw (← t.ensures, refuses-not t.result c.if-told-ne0.false)
-    (refl, (c.chain.ensures.links_after ∙ links-cleared _ _ _ _ c.clear.ensures, c.mark_unmet.ensures))
+    let n = c.args.n in
+    let e : c.fill.new.self ≡ replicate n 41 = search rules in
+    (c.chain.ensures.links_after ∙ links-cleared _ _ _ _ c.clear.ensures, ap (λ (marks : List ℕ). marks ++ drop n c.args.room.now) (e ∙ marks-unmet n))

@@ -1,26 +1,32 @@
 -- The items, then the length, then the filler.
-use Rattle.answers.proofs.Refusals.{number_of, then-first, then-second}
+use Rattle.std.specs.Prelude.{Err}
+use borrow.Author.Rules.{rules}
+use mathlib.Core.Path.{◌≡◌}
+use Rattle.answers.proofs.Tellings.{first, next, good}
 use Rattle.evidence.specs.Judged.{block_told}
-use mathlib.Core.Path.{sym, ◌∙◌}
 use Rattle.evidence.proofs.Told.{length-passed}
 use Rattle.evidence.proofs.judged.block_tells.Goals as goal
 
-pub returns-then-of_items-ne0 : goal.returns-then-of_items-ne0
+pub returns-in_err-items_tell : goal.returns-in_err-items_tell
 unfolding block_told
-returns-then-of_items-ne0 c = rw (← c.items_tell-of_items.ensures) (sym (then-first _ _ c.if-of_items-ne0.true))
+returns-in_err-items_tell c =
+    let e : c.from_residual.result ≡ Err c.in_err-items_tell.field-0.0 = search rules in
+    rw e (first _ _ _ c.in_err-items_tell.ensures)
 
-pub returns-then-of_length-ne0 : goal.returns-then-of_length-ne0
+pub returns-in_err-length_tells : goal.returns-in_err-length_tells
 unfolding block_told
-returns-then-of_length-ne0 c = rw (← c.items_tell-of_items.ensures, ← c.length_tells-of_length.ensures) (sym (then-second _ _ c.if-of_items-ne0.false ∙ then-first _ _ c.if-of_length-ne0.true))
+returns-in_err-length_tells c =
+    let e : c.from_residual-in_err-length_tells.result ≡ Err c.in_err-length_tells.field-0.0 = search rules in
+    rw e (next _ _ _ c.in_ok-items_tell.ensures (first _ _ _ c.in_err-length_tells.ensures))
 
 pub filler_tells-requires : goal.filler_tells-requires
 filler_tells-requires c =
     record {
       b_bound = c.requires.b_bound;
       file_bound = c.requires.file_bound;
-      b_bound_2 = (length-passed _ _ _ _ (number_of (sym c.length_tells-of_length.ensures) ∙ c.if-of_length-ne0.false)).1;
+      b_bound_2 = (length-passed _ _ _ _ (good _ c.in_ok-length_tells.ensures)).1;
     }
 
 pub returns : goal.returns
 unfolding block_told
-returns c = rw (← c.items_tell-of_items.ensures, ← c.length_tells-of_length.ensures, ← c.filler_tells.ensures) (sym (then-second _ _ c.if-of_items-ne0.false ∙ then-second _ _ c.if-of_length-ne0.false))
+returns c = next _ _ _ c.in_ok-items_tell.ensures (next _ _ _ c.in_ok-length_tells.ensures c.filler_tells.ensures)

@@ -1,24 +1,20 @@
--- The first block against the rows laid out.
-use Rattle.evidence_rows.specs.Tables.{header_rows}
-use Rattle.evidence.specs.Judged.{header_told}
-use Rattle.evidence.proofs.Rows.{header-fits, table-judges, table-tells}
+-- The first block against the header's rows.
 use native.Mathlib.Omega.{arith}
+use Rattle.evidence.specs.Judged.{header_told}
+use Rattle.evidence.proofs.Rows.{header-fits, table-serves}
 use Rattle.evidence.proofs.judged.header_tells.Goals as goal
 
 pub judge_rows-requires : goal.judge_rows-requires
 judge_rows-requires c =
-    let b = c.block-header in
-    let q = table-judges 1024 header_rows c.header_rows.result header-fits c.header_rows.ensures b.result.now b.result.now
-    (omega (arith, b.ensures.result_len)) (omega (arith, b.ensures.result_len)) in
+    let l = c.block-header.ensures.result_len in
+    let q = table-serves 1024 _ _ c.header_rows.ensures header-fits _ _ (omega (arith, l)) (omega (arith, l)) in
     record {
-      by_index = q.0;
-      by_index_2 = q.1.0;
-      in_bounds = q.1.1.0;
-      in_bounds_2 = q.1.1.1;
+      by_index = q.of_rec;
+      by_index_2 = q.of_header;
+      in_bounds = q.rec_long;
+      in_bounds_2 = q.header_long;
     }
 
 pub returns : goal.returns
 unfolding header_told
-returns c =
-    rw (← c.block-header.ensures.result_value)
-    (table-tells 1024 header_rows c.header_rows.result header-fits c.header_rows.ensures _ _ _ _ c.judge_rows.ensures)
+returns c = rw (← c.block-header.ensures.result_value, ← c.header_rows.ensures) c.judge_rows.ensures

@@ -1,90 +1,93 @@
 -- Stage by stage.
-use Rattle.answers.proofs.Refusals.{number_of}
-use Rattle.evidence.specs.Judged.{byte_of}
-use Rattle.evidence.specs.Reading.{places_of}
-use Rattle.evidence.proofs.Looked.{sizes-good, at_size, at-header, good-records, at_records, at_rest, all-good, records-few, unit-inside, places-none, place_at, places-long, first-inside}
-use mathlib.Core.Path.{sym, ◌∙◌}
+use Rattle.std.specs.Prelude.{Err}
+use borrow.Author.Rules.{rules}
+use mathlib.Core.Path.{◌≡◌, sym, ◌∙◌}
 use native.Mathlib.Omega.{arith}
+use Rattle.answers.proofs.Tellings.{first, next, good}
+use Rattle.evidence.specs.Judged.{byte_of}
+use Rattle.evidence.specs.Reading.{read_of}
+use Rattle.evidence.proofs.Stages.{size-good}
+use Rattle.evidence.proofs.Looked.{none-size, none-header, good-records, all-good, records-few, unit-inside, places-none, places-filled, place_at, places-long, first-inside}
 use Rattle.evidence.proofs.reading.look.Goals as goal
 
-pub returns-then-of_size-ne0 : goal.returns-then-of_size-ne0
-returns-then-of_size-ne0 c =
-    let a = c.args in
-    let e = c.size_tells-of_size.ensures in
-    let t = at_size a.exempt a.file.now (λ z. c.if-of_size-ne0.true (number_of e ∙ z)) in
-    record {
-      value = rw (t.0, t.1, e);
-      places_after = places-none a.exempt a.file.now a.places.now t.1;
-    }
+pub returns-in_err-size_tells-clause-answer_value : goal.returns-in_err-size_tells-clause-answer_value
+unfolding read_of
+returns-in_err-size_tells-clause-answer_value c =
+    let e : c.from_residual.result ≡ Err c.in_err-size_tells.field-0.0 = search rules in
+    rw e (first _ _ _ c.in_err-size_tells.ensures)
 
-pub header_tells-of_header-requires : goal.header_tells-of_header-requires
-header_tells-of_header-requires c =
-    let a = c.args in
-    omega (arith, (sizes-good a.file.now (number_of (sym c.size_tells-of_size.ensures) ∙ c.if-of_size-ne0.false)).fewest)
+pub returns-in_err-size_tells-clause-places_after : goal.returns-in_err-size_tells-clause-places_after
+returns-in_err-size_tells-clause-places_after c = places-none _ _ _ (none-size _ _ _ c.in_err-size_tells.ensures)
 
-pub returns-then-of_header-ne0 : goal.returns-then-of_header-ne0
-returns-then-of_header-ne0 c =
-    let a = c.args in
-    let e = c.header_tells-of_header.ensures in
-    let t = at-header a.exempt a.file.now (number_of (sym c.size_tells-of_size.ensures) ∙ c.if-of_size-ne0.false) (λ z. c.if-of_header-ne0.true (number_of e ∙ z)) in
-    record {
-      value = rw (t.0, t.1, e);
-      places_after = places-none a.exempt a.file.now a.places.now t.1;
-    }
+pub header_tells-requires : goal.header_tells-requires
+header_tells-requires c = omega (arith, (size-good _ (good _ c.in_ok-size_tells.ensures)).fewest)
 
-pub records_tell-walked-requires : goal.records_tell-walked-requires
-records_tell-walked-requires c =
-    let z = sizes-good c.args.file.now (number_of (sym c.size_tells-of_size.ensures) ∙ c.if-of_size-ne0.false) in
+pub returns-in_err-header_tells-clause-answer_value : goal.returns-in_err-header_tells-clause-answer_value
+unfolding read_of
+returns-in_err-header_tells-clause-answer_value c =
+    let e : c.from_residual-in_err-header_tells.result ≡ Err c.in_err-header_tells.field-0.0 = search rules in
+    rw e (next _ _ _ c.in_ok-size_tells.ensures (first _ _ _ c.in_err-header_tells.ensures))
+
+pub returns-in_err-header_tells-clause-places_after : goal.returns-in_err-header_tells-clause-places_after
+returns-in_err-header_tells-clause-places_after c = places-none _ _ _ (none-header _ _ (good _ c.in_ok-size_tells.ensures) _ c.in_err-header_tells.ensures)
+
+pub records_tell-requires : goal.records_tell-requires
+records_tell-requires c =
+    let z = size-good _ (good _ c.in_ok-size_tells.ensures) in
     record {
       bound = z.fewest;
       file_bound = z.most;
       places_len = c.requires;
     }
 
-pub returns-then-of_records-ne0 : goal.returns-then-of_records-ne0
-unfolding places_of
-returns-then-of_records-ne0 c =
-    let a = c.args in
-    let k = c.records_tell-walked in
-    let z = number_of (sym c.size_tells-of_size.ensures) ∙ c.if-of_size-ne0.false in
-    let h = number_of (sym c.header_tells-of_header.ensures) ∙ c.if-of_header-ne0.false in
-    let g = good-records a.exempt a.file.now z h in
-    let told = at_records a.exempt a.file.now z h (λ r. c.if-of_records-ne0.true (number_of k.ensures.answer_value ∙ r)) in
-    record {
-      value = rw (told, g, k.ensures.answer_value, k.ensures.count_value);
-      places_after = rw (g, ← k.ensures.count_value) k.ensures.places_after;
-    }
+pub returns-in_err-count-clause-answer_value : goal.returns-in_err-count-clause-answer_value
+unfolding read_of
+returns-in_err-count-clause-answer_value c =
+    let e : c.from_residual-in_err-count.result ≡ Err c.in_err-count.field-0.0 = search rules in
+    rw e (next _ _ _ c.in_ok-size_tells.ensures (next _ _ _ c.in_ok-header_tells.ensures (first _ _ _ c.in_err-count.ensures.answer_value)))
+
+pub returns-in_err-count-clause-places_after : goal.returns-in_err-count-clause-places_after
+returns-in_err-count-clause-places_after c =
+    c.records_tell.ensures.places_after ∙ places-filled _ _ _ (good _ c.in_ok-size_tells.ensures) (good _ c.in_ok-header_tells.ensures)
 
 pub rest_tells-requires : goal.rest_tells-requires
-unfolding places_of
 rest_tells-requires c =
     let a = c.args in
-    let k = c.records_tell-walked in
-    let z = number_of (sym c.size_tells-of_size.ensures) ∙ c.if-of_size-ne0.false in
-    let h = number_of (sym c.header_tells-of_header.ensures) ∙ c.if-of_header-ne0.false in
-    let g = good-records a.exempt a.file.now z h in
-    let r = number_of (sym k.ensures.answer_value) ∙ c.if-of_records-ne0.false in
-    let e = k.ensures.count_value ∙ all-good a.exempt a.file.now r in
+    let n = c.in_ok-count.count in
+    let k = c.in_ok-count.ensures in
+    let z = good _ c.in_ok-size_tells.ensures in
+    let h = good _ c.in_ok-header_tells.ensures in
+    let r = good _ k.answer_value in
+    let e = k.count_value ∙ all-good a.exempt a.file.now r in
+    let some = (size-good a.file.now z).fewest in
+    let filled = k.places_after ∙ places-filled a.exempt a.file.now a.places.now z h in
     record {
-      bound = (sizes-good a.file.now z).fewest;
+      bound = some;
       n_le_limit = rw e (records-few a.exempt a.file.now r);
       n_value = e;
-      by_index = λ i l. rw (g, ← k.ensures.count_value, ← k.ensures.places_after) at (place_at a.exempt a.file.now a.places.now i (rw (g, ← k.ensures.count_value) l));
+      by_index = λ i l. rw filled (place_at a.exempt a.file.now a.places.now i (rw (good-records a.exempt a.file.now z h, ← k.count_value) l));
       by_index_2 = λ i l. first-inside a.file.now i (rw (← e) l);
-      n_in_bounds = rw k.ensures.places_after (places-long (byte_of a.file.now) k.result.count _);
-      by_index_3 = λ i l. unit-inside a.exempt a.file.now r (sizes-good a.file.now z).fewest i (rw (← e) l);
+      n_in_bounds = rw (k.places_after, ← k.count_value) (places-long (byte_of a.file.now) n _);
+      by_index_3 = λ i l. unit-inside a.exempt a.file.now r some i (rw (← e) l);
     }
 
+pub returns-in_err-rest_tells-clause-answer_value : goal.returns-in_err-rest_tells-clause-answer_value
+unfolding read_of
+returns-in_err-rest_tells-clause-answer_value c =
+    let e : c.from_residual-in_err-rest_tells.result ≡ Err c.in_err-rest_tells.field-0.0 = search rules in
+    rw e (next _ _ _ c.in_ok-size_tells.ensures (next _ _ _ c.in_ok-header_tells.ensures (next _ _ _ c.in_ok-count.ensures.answer_value c.in_err-rest_tells.ensures)))
+
+pub returns-in_err-rest_tells-clause-places_after : goal.returns-in_err-rest_tells-clause-places_after
+returns-in_err-rest_tells-clause-places_after c =
+    c.records_tell.ensures.places_after ∙ places-filled _ _ _ (good _ c.in_ok-size_tells.ensures) (good _ c.in_ok-header_tells.ensures)
+
 pub returns : goal.returns
-unfolding places_of
+unfolding read_of
 returns c =
-    let a = c.args in
-    let k = c.records_tell-walked in
-    let z = number_of (sym c.size_tells-of_size.ensures) ∙ c.if-of_size-ne0.false in
-    let h = number_of (sym c.header_tells-of_header.ensures) ∙ c.if-of_header-ne0.false in
-    let g = good-records a.exempt a.file.now z h in
-    let told = at_rest a.exempt a.file.now z h (number_of (sym k.ensures.answer_value) ∙ c.if-of_records-ne0.false) in
+    let z = good _ c.in_ok-size_tells.ensures in
+    let h = good _ c.in_ok-header_tells.ensures in
     record {
-      value = rw (told, g, k.ensures.count_value, c.rest_tells.ensures);
-      places_after = rw (g, ← k.ensures.count_value) k.ensures.places_after;
+      answer_value = next _ _ _ c.in_ok-size_tells.ensures (next _ _ _ c.in_ok-header_tells.ensures (next _ _ _ c.in_ok-count.ensures.answer_value c.in_ok-rest_tells.ensures));
+      count_value = c.in_ok-count.ensures.count_value ∙ sym (good-records _ _ z h);
+      places_after = c.records_tell.ensures.places_after ∙ places-filled _ _ _ z h;
     }

@@ -1,49 +1,33 @@
--- The search looks for the first row of the kind.
-use Prim.Native.Nat.{ℕ}
+-- The first row of the kind, as `find` finds it.
+use Rattle.std.proofs.Common.{ℕ, Bor, ◌≡◌, length, get_or, eqb, refl, ◌∙◌, ap, rules, tests}
+use Rattle.std.specs.List.{find}
+use Rattle.std.specs.Prelude.{Option, Some, None}
+use Rattle.std.specs.Option.{option_map, option_map_or, unwrap_or}
+use Rattle.std.proofs.lemmas.Option.{unwrap_or-slice_get}
+use Rattle.std.proofs.lemmas.Iterator.{YieldsList-from_slice}
+use Rattle.std.proofs.lemmas.Iterator.Search.{find_from_yields_List}
 use Rattle.laws.specs.Least.{least}
-use Rattle.laws.proofs.Leasts.{least_start, least_more, least-stop}
+use Rattle.laws.proofs.Positions.{find_least}
 use Rattle.evidence_kinds.specs.Evidence.{sizes, none, kind_is, most_at, most_of}
-use borrow.Author.Rules.{rules}
-use borrow.Author.Tests.{eq-eqb, ne_eqb}
-use lib.ListN.{length, get_or, get_or-eq_default}
-use mathlib.Core.Path.{◌≡◌, refl, sym, ap, ◌∙◌}
-use native.Mathlib.Nat.{le_refl}
-use native.Mathlib.Omega.{arith}
 use Rattle.evidence_kinds.specs.declared.allowed.Sized.{Sized}
 use Rattle.evidence_kinds.proofs.allowed.most.Goals as goal
 
-many : length sizes ≡ 6
-unfolding sizes
-many = refl
+-- what is said of the row that was found, or of none
+said : (r : Option (Bor Sized)) → option_map_or (λ (x : Bor Sized). x.now.most) r 0 ≡ (unwrap_or (option_map (λ (x : Bor Sized). x.now) r) none).most
+said None = refl
+said (Some x) = refl
 
--- no row is of the kind
-most-none : (kind : ℕ) → least (kind_is kind) (length sizes) ≡ length sizes → most_of kind ≡ 0
-unfolding most_of most_at
-most-none kind e = ap most_at e ∙ ap (λ (r : Sized). r.most) (get_or-eq_default sizes none {n = length sizes} (le_refl (length sizes)))
-
-pub loop-i-init : goal.loop-i-init
-unfolding sizes
-loop-i-init c = (search rules, least_start _)
-
-pub returns-then-row-kind : goal.returns-then-row-kind
-unfolding most_of most_at kind_is sizes
-returns-then-row-kind c =
-    let l = c.loop-i in
-    let below = c.loop-i-test.true in
-    sym (ap most_at (least-stop (kind_is _) l.i (length sizes) below l.invariant.1 (eq-eqb (get_or sizes l.i none).kind _ c.if-row-kind.true)))
-
-pub loop-i-smaller : goal.loop-i-smaller
-unfolding sizes
-loop-i-smaller c = search rules
-
-pub loop-i-preserved : goal.loop-i-preserved
-unfolding kind_is sizes
-loop-i-preserved c =
-    let l = c.loop-i in
-    (search rules, least_more (kind_is _) l.i l.invariant.1 (ne_eqb (get_or sizes l.i none).kind _ c.if-row-kind.false))
+first : (kind : ℕ) → (unwrap_or (find (λ (r : Sized). eqb r.kind kind) sizes) none).most ≡ most_of kind
+unfolding most_of most_at kind_is
+first kind =
+    let is = λ (r : Sized). eqb r.kind kind in
+    ap (λ (r : Option Sized). (unwrap_or r none).most) (find_least is sizes none) ∙
+    ap (λ (r : Sized). r.most) (unwrap_or-slice_get sizes (least (λ k. is (get_or sizes k none)) (length sizes)) none)
 
 pub returns : goal.returns
+unfolding sizes
 returns c =
-    let l = c.loop-i in
-    let end : l.i ≡ length sizes = omega (arith, l.invariant.0, c.loop-i-test.false, many) in
-    sym (most-none _ (rw end at l.invariant.1))
+    let is = λ (r : Sized). eqb r.kind c.args.kind in
+    let found = find_from_yields_List is _ _ c.find.result c.find.ensures.ran (YieldsList-from_slice sizes cc) (λ x b q k. search (rules, tests)) in
+    let given : c.map_or.result ≡ option_map_or (λ (x : Bor Sized). x.now.most) c.find.result 0 = search rules in
+    given ∙ (said c.find.result ∙ (ap (λ (r : Option Sized). (unwrap_or r none).most) found ∙ first c.args.kind))

@@ -1,8 +1,11 @@
--- By the profile.
+-- By the profile, the table unfolded.
+use Rattle.evidence_rows.specs.Tables.{record_rows, front}
 use Rattle.evidence_rows.proofs.by_role.data_rows.Goals as goal
 
 pub returns-then-partly_exempt : goal.returns-then-partly_exempt
-returns-then-partly_exempt c = rw c.if-partly_exempt.true c.exempt.ensures
+unfolding record_rows front
+returns-then-partly_exempt c = rw c.if-partly_exempt.true
 
 pub returns : goal.returns
-returns c = rw c.if-partly_exempt.false c.ordinary.ensures
+unfolding record_rows front
+returns c = rw c.if-partly_exempt.false

@@ -1,51 +1,34 @@
 -- The items, then the length, then the evidence.
-use Prim.Native.Nat.{◌+◌}
+use Rattle.std.specs.Prelude.{Err, ◌+◌}
+use borrow.Author.Rules.{rules}
 use lib.ListN.{length}
-use mathlib.Core.Path.{sym, ◌∙◌}
+use mathlib.Core.Path.{◌≡◌}
 use native.Mathlib.Omega.{arith}
 use borrow.Author.Tests.{le-leb, lt-leb}
-use Rattle.answers.proofs.Refusals.{then-first, then-second}
+use Rattle.answers.proofs.Tellings.{first, next}
 use Rattle.evidence_writer.specs.Writing.{unit_told}
 use Rattle.evidence_writer.proofs.units_tell.unit_tells.Goals as goal
 
 pub returns-then-x-p-lt-ITEMS : goal.returns-then-x-p-lt-ITEMS
 unfolding unit_told
-returns-then-x-p-lt-ITEMS c =
-    let a = c.args in
-    rw (lt-leb (a.p + 74) (length a.x.now) (omega arith)) c.refused.ensures
+returns-then-x-p-lt-ITEMS c = let a = c.args in rw (lt-leb (a.p + 74) (length a.x.now) (omega arith))
 
-pub items_tell-of_items-requires : goal.items_tell-of_items-requires
-items_tell-of_items-requires c =
-    record {
-      rows_value = c.requires.rows_value;
-      header_len = c.requires.header_len;
-      code_len = c.requires.code_len;
-      p_in_bounds = omega arith;
-    }
-
-pub returns-then-of_items-ne0 : goal.returns-then-of_items-ne0
+pub returns-in_err-items_tell : goal.returns-in_err-items_tell
 unfolding unit_told
-returns-then-of_items-ne0 c =
+returns-in_err-items_tell c =
     let a = c.args in
-    rw (le-leb (a.p + 74) (length a.x.now) (omega arith), ← c.items_tell-of_items.ensures) (sym (then-first _ _ c.if-of_items-ne0.true))
+    let e : c.from_residual.result ≡ Err c.in_err-items_tell.field-0.0 = search rules in
+    rw (e, le-leb (a.p + 74) (length a.x.now) (omega arith)) (first _ _ _ c.in_err-items_tell.ensures)
 
-pub returns-then-of_length-ne0 : goal.returns-then-of_length-ne0
+pub returns-in_err-length_tells : goal.returns-in_err-length_tells
 unfolding unit_told
-returns-then-of_length-ne0 c =
+returns-in_err-length_tells c =
     let a = c.args in
-    rw (le-leb (a.p + 74) (length a.x.now) (omega arith), ← c.items_tell-of_items.ensures, ← c.length_tells-of_length.ensures)
-    (sym (then-second _ _ c.if-of_items-ne0.false ∙ then-first _ _ c.if-of_length-ne0.true))
-
-pub evidence_tells-requires : goal.evidence_tells-requires
-evidence_tells-requires c =
-    record {
-      p_in_bounds = omega (arith, c.if-x-p-lt-ITEMS.false, c.requires.p_in_bounds);
-      b_le_most_blocks = c.requires.b_le_most_blocks;
-    }
+    let e : c.from_residual-in_err-length_tells.result ≡ Err c.in_err-length_tells.field-0.0 = search rules in
+    rw (e, le-leb (a.p + 74) (length a.x.now) (omega arith)) (next _ _ _ c.in_ok-items_tell.ensures (first _ _ _ c.in_err-length_tells.ensures))
 
 pub returns : goal.returns
 unfolding unit_told
 returns c =
     let a = c.args in
-    rw (le-leb (a.p + 74) (length a.x.now) (omega arith), ← c.items_tell-of_items.ensures, ← c.length_tells-of_length.ensures, ← c.evidence_tells.ensures)
-    (sym (then-second _ _ c.if-of_items-ne0.false ∙ then-second _ _ c.if-of_length-ne0.false))
+    rw (le-leb (a.p + 74) (length a.x.now) (omega arith)) (next _ _ _ c.in_ok-items_tell.ensures (next _ _ _ c.in_ok-length_tells.ensures c.evidence_tells.ensures))

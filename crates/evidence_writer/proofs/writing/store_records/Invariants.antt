@@ -1,5 +1,5 @@
 -- One record behind the other.
-use Prim.Native.Nat.{◌+◌, ◌-◌, ◌*◌, ◌≤◌}
+use Prim.Native.Nat.{◌+◌, ◌*◌}
 use lib.ListN.{length}
 use mathlib.Core.Path.{◌≡◌}
 use Rattle.laws.specs.Joined.{joined}
@@ -10,7 +10,6 @@ use Rattle.evidence_builder.specs.Files.{record_of}
 use Rattle.evidence_writer.proofs.writing.store_records.Given as goal
 
 abbrev pub invariant-loop-i : goal.invariant-loop-i
-invariant-loop-i l = (l.i ≤ l.n) × (l.p ≡ place_of l.x l.i) × (l.at ≡ block + blocks_to l.x l.i * block) × (length l.room ≡ length l.initial.room) × (l.room ≡ stored block (joined (record_of l.code l.x) l.i) l.initial.room)
-
-abbrev pub decreases-loop-i : goal.decreases-loop-i
-decreases-loop-i l = l.n - l.i
+invariant-loop-i l =
+    (l.p ≡ place_of l.x l.i) × (l.at ≡ block + blocks_to l.x l.i * block) × (length l.room ≡ length l.initial.room) ×
+    (l.room ≡ stored block (joined (record_of l.code l.x) l.i) l.initial.room)

@@ -1,36 +1,15 @@
--- The search looks for the name, pair kind by pair kind.
-use Rattle.laws.proofs.Leasts.{least_start, least_more, least-stop}
-use Rattle.kinds.specs.Pairs.{no_pair, pairs, request_is, pair_from, pair_of}
-use borrow.Author.Rules.{rules}
-use borrow.Author.Tests.{eq-eqb, ne_eqb, lt-ltb}
-use lib.ListN.{length, get_or}
-use native.Mathlib.Nat.{le_antisymm}
+-- The first pair kind of the table whose request has the name.
+use Rattle.std.proofs.Common.{rules, tests, eqb, sym, ◌∙◌}
+use Rattle.std.proofs.lemmas.Iterator.{YieldsList-from_slice}
+use Rattle.std.proofs.lemmas.Iterator.Adapters.{option_map_id}
+use Rattle.std.proofs.lemmas.Iterator.Consumers.{YieldsList-from_copied}
+use Rattle.std.proofs.lemmas.Iterator.Search.{find_from_yields_List}
+use Rattle.kinds.specs.Pairs.{pairs}
+use Rattle.kinds.proofs.Finding.{pair_found}
 use Rattle.kinds.proofs.of_pairs.pair_of.Goals as goal
 
-pub loop-i-init : goal.loop-i-init
-unfolding pairs
-loop-i-init c = (search rules, least_start _)
-
-pub returns-then-pair-name : goal.returns-then-pair-name
-unfolding pair_of pair_from request_is pairs
-returns-then-pair-name c =
-    let l = c.loop-i in
-    let below = c.loop-i-test.true in
-    rw (least-stop (request_is _) l.i (length pairs) below l.invariant.1 (eq-eqb (get_or pairs l.i no_pair).request.name _ c.if-pair-name.true), lt-ltb l.i (length pairs) below)
-
-pub loop-i-smaller : goal.loop-i-smaller
-unfolding pairs
-loop-i-smaller c = search rules
-
-pub loop-i-preserved : goal.loop-i-preserved
-unfolding request_is pairs
-loop-i-preserved c =
-    let l = c.loop-i in
-    (search rules, least_more (request_is _) l.i l.invariant.1 (ne_eqb (get_or pairs l.i no_pair).request.name _ c.if-pair-name.false))
-
 pub returns : goal.returns
-unfolding pair_of pair_from pairs
+unfolding pairs
 returns c =
-    let l = c.loop-i in
-    let end = le_antisymm l.invariant.0 c.loop-i-test.false in
-    rw (rw end at l.invariant.1)
+    let first = find_from_yields_List (λ p. eqb p.request.name c.args.name) _ _ c.find.result c.find.ensures.ran (YieldsList-from_copied (YieldsList-from_slice pairs (search rules))) (λ x b q k. search (rules, tests)) in
+    sym (option_map_id c.find.result) ∙ (first ∙ sym (pair_found c.args.name))

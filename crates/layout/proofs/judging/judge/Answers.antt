@@ -1,11 +1,11 @@
--- The rows of the kind, laid out, tell what they tell.
-use Rattle.layout.proofs.Judged.{laid-judged, laid-tells}
+-- The rows of the kind tell what they tell.
+use Rattle.layout.proofs.Judged.{rows-judged, rows-tell}
 use mathlib.Core.Path.{◌∙◌}
 use Rattle.layout.proofs.judging.judge.Goals as goal
 
 pub judge_rows-requires : goal.judge_rows-requires
 judge_rows-requires c =
-    let q = laid-judged c.args.kind c.args.role c.rows_of.result c.rows_of.ensures c.args.rec.now c.args.header.now c.requires.rec_len c.requires.header_len in
+    let q = rows-judged c.args.kind c.args.role c.rows_of.result.now c.rows_of.ensures c.args.rec.now c.args.header.now c.requires.rec_len c.requires.header_len in
     record {
       by_index = q.0;
       by_index_2 = q.1.0;
@@ -16,4 +16,4 @@ judge_rows-requires c =
 pub returns : goal.returns
 returns c =
     let a = c.args in
-    c.judge_rows.ensures ∙ laid-tells a.kind a.role c.rows_of.result c.rows_of.ensures _ _ _
+    c.judge_rows.ensures ∙ rows-tell a.kind a.role c.rows_of.result.now c.rows_of.ensures _ _ _

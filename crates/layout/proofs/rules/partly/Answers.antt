@@ -1,32 +1,16 @@
--- The mark, then the code or four spaces.
+-- By its definition.
+use Rattle.std.proofs.Common.{rules}
 use Rattle.layout.specs.Rules.{partly}
-use borrow.Author.Tests.{eq-eqb, ne_eqb}
 use Rattle.layout.proofs.rules.partly.Goals as goal
 
 pub returns-then-table_code : goal.returns-then-table_code
 unfolding partly
-returns-then-table_code c =
-    rw (
-      ← c.byte.ensures.value,
-      eq-eqb _ 80 c.if-byte-eq80.true,
-      ← c.rest.ensures,
-      ← c.word-code.ensures,
-      ← c.table_code.ensures,
-      c.if-table_code.true,
-    )
+returns-then-table_code c = search rules
 
 pub returns-else-table_code : goal.returns-else-table_code
 unfolding partly
-returns-else-table_code c =
-    rw (
-      ← c.byte.ensures.value,
-      eq-eqb _ 80 c.if-byte-eq80.true,
-      ← c.rest.ensures,
-      ← c.word-code.ensures,
-      ← c.table_code.ensures,
-      c.if-table_code.false,
-    )
+returns-else-table_code c = search rules
 
-pub returns : goal.returns
+pub returns-else-byte-eq80 : goal.returns-else-byte-eq80
 unfolding partly
-returns c = rw (← c.byte.ensures.value, ne_eqb _ 80 c.if-byte-eq80.false)
+returns-else-byte-eq80 c = search rules

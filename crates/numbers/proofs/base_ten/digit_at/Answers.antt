@@ -1,21 +1,32 @@
 -- The last digit is dropped until the one that is asked stands last.
-use Rattle.numbers.proofs.Digits.{digit-down, digit-here, digit-past}
+use Prim.Native.Nat.{ℕ, ◌+◌, ◌-◌, ◌/◌}
+use lib.ListN.{get_or}
 use borrow.Author.Rules.{rules}
-use mathlib.Core.Path.{refl, sym, ◌∙◌}
+use mathlib.Core.Path.{◌≡◌, sym, ◌∙◌, ap}
+use native.Mathlib.Omega.{arith}
+use Rattle.numbers.specs.Numbers.{digits_of}
+use Rattle.numbers.proofs.Digits.{digit-down, digit-here, digit-past}
 use Rattle.numbers.proofs.base_ten.digit_at.Goals as goal
 
 pub returns-then-w-d : goal.returns-then-w-d
 returns-then-w-d c = sym (digit-past _ _ _ c.if-w-d.true)
 
-pub loop-at-init : goal.loop-at-init
-loop-at-init c = (search rules, search rules, refl)
+pub loop-init : goal.loop-init
+loop-init c =
+    let a = c.args in
+    let all : a.w ≡ a.w + a.d + 1 - (a.d + 1) = omega arith in
+    (search rules, ap (λ (k : ℕ). get_or (digits_of k a.n) a.d 0) all)
 
-pub loop-at-preserved : goal.loop-at-preserved
-loop-at-preserved c =
-    let l = c.loop-at in
-    (search rules, search rules, l.invariant.2 ∙ digit-down l.at l.rest _ c.loop-at-test.true)
+pub loop-preserved : goal.loop-preserved
+loop-preserved c =
+    let l = c.loop in
+    let a = c.args in
+    let at = a.w + a.d + 1 - l.counter in
+    let next : at - 1 ≡ a.w + a.d + 1 - (l.counter + 1) = omega arith in
+    (search rules, l.invariant.1 ∙ (digit-down at l.rest a.d (omega arith) ∙ ap (λ (k : ℕ). get_or (digits_of k (l.rest / 10)) a.d 0) next))
 
 pub returns : goal.returns
 returns c =
-    let l = c.loop-at in
-    sym (l.invariant.2 ∙ digit-here l.at l.rest _ l.invariant.0 c.loop-at-test.false)
+    let l = c.loop in
+    let a = c.args in
+    sym (l.invariant.1 ∙ digit-here (a.w + a.d + 1 - l.counter) l.rest a.d (omega arith) (omega arith))

@@ -1,13 +1,8 @@
--- Stored, and joined to those that are chained.
-use Rattle.keys.specs.Chains.{slots}
+-- Few are held.
 use Rattle.payers.specs.Turns.{held}
 use native.Mathlib.Omega.{arith}
 use Rattle.payers.proofs.seeking.hold.Goals as goal
 
-pub join-requires : goal.join-requires
-unfolding held slots
-join-requires c =
-    record {
-      i_bound = omega (arith, c.requires.i_lt_held);
-      i_in_bounds = omega (arith, c.requires.i_lt_held, c.requires.held_in_bounds);
-    }
+pub join-requires-clause-i_bound : goal.join-requires-clause-i_bound
+unfolding held
+join-requires-clause-i_bound c = omega (arith, c.requires.i_lt_held)

@@ -1,7 +1,7 @@
 -- By whether the search goes on.
 use Rattle.payers.specs.Turns.{held, next_in}
 use Rattle.payers.proofs.Sought.{goes-within}
-use mathlib.Core.Path.{refl, sym, ◌∙◌}
+use mathlib.Core.Path.{sym, ◌∙◌}
 use native.Mathlib.Omega.{arith}
 use Rattle.payers.proofs.seeking.next_in.Goals as goal
 
@@ -9,18 +9,10 @@ pub overflow_add-from : goal.overflow_add-from
 unfolding held
 overflow_add-from c = record { fits = omega (arith, goes-within c.args.place (sym c.goes_on.ensures ∙ c.if-goes_on.true), c.well_formed) }
 
-pub returns-then-goes_on : goal.returns-then-goes_on
+pub returns-then-goes_on-clause-value : goal.returns-then-goes_on-clause-value
 unfolding next_in held
-returns-then-goes_on c =
-    rw (sym c.goes_on.ensures ∙ c.if-goes_on.true) (record {
-      value = refl;
-      links_after = c.clear.ensures;
-    })
+returns-then-goes_on-clause-value c = rw (sym c.goes_on.ensures ∙ c.if-goes_on.true)
 
-pub returns : goal.returns
+pub returns-clause-value : goal.returns-clause-value
 unfolding next_in
-returns c =
-    rw (sym c.goes_on.ensures ∙ c.if-goes_on.false) (record {
-      value = refl;
-      links_after = refl;
-    })
+returns-clause-value c = rw (sym c.goes_on.ensures ∙ c.if-goes_on.false)

@@ -1,12 +1,10 @@
 -- Looked for, held, and on to the next.
 use Rattle.payers.specs.Turns.{next_in, moved_on, sought_place, sought_links}
-use Rattle.payers.proofs.Sought.{moved_by, moved-within}
+use Rattle.payers.proofs.Sought.{moved_by}
 use mathlib.Core.Bool.{Bool}
 use mathlib.Core.Path.{◌∙◌, ap}
+use borrow.Author.Rules.{rules}
 use Rattle.payers.proofs.seeking.seek.Goals as goal
-
-pub next_in-requires : goal.next_in-requires
-next_in-requires c = rw c.moved_on.ensures (moved-within c.seen-found.result c.args.place c.requires.begun c.requires.below)
 
 pub returns : goal.returns
 unfolding sought_place sought_links moved_on
@@ -16,4 +14,5 @@ returns c =
       value = c.next_in.ensures.value ∙ ap next_in m;
       links_after = c.next_in.ensures.links_after ∙ rw (m, c.hold_new.ensures.links_after);
       room_after = c.hold_new.ensures.room_after;
+      payer_len = search rules;
     }

@@ -1,24 +1,21 @@
 -- A refusal or all lines.
+use Rattle.answers.proofs.Tellings.{two-refuses}
 use Rattle.posting.proofs.Posted.{text-refused, text-accepted, posted-short, posted-known}
-use mathlib.Core.Path.{◌∙◌}
-use native.Mathlib.Nat.{zero-add}
-use borrow.Author.Rules.{rules}
+use mathlib.Core.Path.{refl, sym, ◌∙◌}
+use native.Mathlib.Omega.{arith}
 use Rattle.posting.proofs.posting.compose.Goals as goal
 
-pub returns-then-answer-ne0 : goal.returns-then-answer-ne0
-returns-then-answer-ne0 c =
-    let p = c.put_refusal in
-    let t = c.post_tells-answer in
-    rw (text-refused _ _ t.result t.ensures c.if-answer-ne0.true) (record {
-      value = p.ensures.value ∙ zero-add _;
-      frame_after = p.ensures.text_after;
-      upper_bound = search rules;
-    })
+pub put_refusal-requires : goal.put_refusal-requires
+put_refusal-requires c = rw c.requires (omega arith)
+
+pub returns-in-Err : goal.returns-in-Err
+returns-in-Err c =
+    let e = c.in-Err.ensures in
+    c.put_refusal.ensures ∙ rw (c.requires, c.into.ensures, text-refused _ _ _ e (two-refuses c.in-Err.refusal)) refl
 
 pub results_for-results-requires : goal.results_for-results-requires
 results_for-results-requires c =
-    let t = c.post_tells-answer in
-    let known = posted-known _ _ t.result t.ensures c.if-answer-ne0.false in
+    let known = posted-known _ _ _ c.in_default.ensures refl in
     record {
       bound = known.request.lengths.fewest;
       bound_2 = known.result.lengths.fewest;
@@ -27,21 +24,13 @@ results_for-results-requires c =
 
 pub put_all-requires : goal.put_all-requires
 put_all-requires c =
-    let t = c.post_tells-answer in
-    let known = posted-known _ _ t.result t.ensures c.if-answer-ne0.false in
+    let known = posted-known _ _ _ c.in_default.ensures refl in
     record {
-      request_len_bound = posted-short _ _ t.result t.ensures c.if-answer-ne0.false;
+      request_len_bound = posted-short _ _ _ c.in_default.ensures refl;
       request_bound = known.request.lengths.most;
       results_value = c.results_for-results.ensures;
-      longest_in_bounds = search rules;
+      text_empty = c.requires;
     }
 
 pub returns : goal.returns
-returns c =
-    let p = c.put_all in
-    let t = c.post_tells-answer in
-    rw (text-accepted _ _ t.result t.ensures c.if-answer-ne0.false) (record {
-      value = p.ensures.value;
-      frame_after = p.ensures.text_after;
-      upper_bound = p.ensures.upper_bound;
-    })
+returns c = c.put_all.ensures ∙ sym (text-accepted _ _ _ c.in_default.ensures refl)

@@ -7,14 +7,14 @@ use Rattle.reader.proofs.reading.length_tells.Goals as goal
 pub nonzero_div-length : goal.nonzero_div-length
 nonzero_div-length c = rw c.of.ensures (size-pos c.args.kind)
 
+pub returns-then-not-is_whole : goal.returns-then-not-is_whole
+unfolding length_tells
+returns-then-not-is_whole c = rw (← c.is_whole.ensures, c.if-not-is_whole.true)
+
 pub returns-then-length-of : goal.returns-then-length-of
 unfolding length_tells
-returns-then-length-of c = rw (← c.is_whole.ensures, c.if-is_whole.true, ← c.of.ensures, le-leb _ _ c.if-length-of.true) c.accepted.ensures
-
-pub returns-then-is_whole : goal.returns-then-is_whole
-unfolding length_tells
-returns-then-is_whole c = rw (← c.is_whole.ensures, c.if-is_whole.true, ← c.of.ensures, lt-leb _ _ c.if-length-of.false) c.refused.ensures
+returns-then-length-of c = rw (← c.is_whole.ensures, c.if-not-is_whole.false, ← c.of.ensures, lt-leb _ _ c.if-length-of.true)
 
 pub returns : goal.returns
 unfolding length_tells
-returns c = rw (← c.is_whole.ensures, c.if-is_whole.false) c.refused-2.ensures
+returns c = rw (← c.is_whole.ensures, c.if-not-is_whole.false, ← c.of.ensures, le-leb _ _ c.if-length-of.false)

@@ -2,10 +2,10 @@
 use Rattle.reader.specs.Reading.{read_of}
 use Rattle.reader.proofs.reading.read.Goals as goal
 
-pub returns-in-Is : goal.returns-in-Is
+pub returns-in_default : goal.returns-in_default
 unfolding read_of
-returns-in-Is c = rw (← c.kind_of-named.ensures, c.in-Is.is) c.read_as.ensures
+returns-in_default c = rw (← c.kind_of.ensures, c.in_default.is)
 
-pub returns-in-Unknown : goal.returns-in-Unknown
+pub returns : goal.returns
 unfolding read_of
-returns-in-Unknown c = rw (← c.kind_of-named.ensures, c.in-Unknown.is) c.refused.ensures
+returns c = rw (← c.kind_of.ensures, c.in-Some.is) c.read_as.ensures

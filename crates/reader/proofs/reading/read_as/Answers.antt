@@ -1,52 +1,40 @@
 -- One stage after the other.
-use Rattle.answers.proofs.Refusals.{then-first, then-second}
+use Rattle.std.specs.Prelude.{Err}
+use borrow.Author.Rules.{rules}
+use mathlib.Core.Path.{◌≡◌}
+use Rattle.answers.proofs.Tellings.{first, next, good}
 use Rattle.reader.proofs.Lengths.{length-good}
-use Rattle.reader.specs.Keys.{keys_tell}
-use Rattle.reader.specs.Reading.{length_tells, read_as}
-use Rattle.reader.specs.Judged.{records_tell}
-use Rattle.reader.specs.Totals.{totals_tell}
-use mathlib.Core.Path.{sym, ◌∙◌}
+use Rattle.reader.specs.Reading.{read_as}
 use Rattle.reader.proofs.reading.read_as.Goals as goal
 
-pub returns-then-of_length-ne0 : goal.returns-then-of_length-ne0
+pub returns-in_err-length_tells : goal.returns-in_err-length_tells
 unfolding read_as
-returns-then-of_length-ne0 c = rw c.length_tells-of_length.ensures (sym (then-first _ _ (rw (← c.length_tells-of_length.ensures) c.if-of_length-ne0.true)))
+returns-in_err-length_tells c =
+    let e : c.from_residual.result ≡ Err c.in_err-length_tells.field-0.0 = search rules in
+    rw e (first _ _ _ c.in_err-length_tells.ensures)
 
-pub returns-then-of_records-ne0 : goal.returns-then-of_records-ne0
+pub returns-in_err-records_tell : goal.returns-in_err-records_tell
 unfolding read_as
-returns-then-of_records-ne0 c =
-    rw c.records_tell-of_records.ensures (sym (
-    then-second (length_tells _ _) _ (rw (← c.length_tells-of_length.ensures) c.if-of_length-ne0.false) ∙
-    then-first _ _ (rw (← c.records_tell-of_records.ensures) c.if-of_records-ne0.true)))
+returns-in_err-records_tell c =
+    let e : c.from_residual-in_err-records_tell.result ≡ Err c.in_err-records_tell.field-0.0 = search rules in
+    rw e (next _ _ _ c.in_ok-length_tells.ensures (first _ _ _ c.in_err-records_tell.ensures))
 
-pub totals_tell-of_totals-requires : goal.totals_tell-of_totals-requires
-totals_tell-of_totals-requires c =
-    let good = length-good _ _ (rw c.length_tells-of_length.ensures at c.if-of_length-ne0.false) in
-    record {
-      bound = good.fewest;
-      file_bound = good.most;
-    }
+pub totals_tell-requires : goal.totals_tell-requires
+totals_tell-requires c =
+    let whole = length-good _ _ (good _ c.in_ok-length_tells.ensures) in
+    record { bound = whole.fewest; file_bound = whole.most }
 
-pub returns-then-of_totals-ne0 : goal.returns-then-of_totals-ne0
+pub returns-in_err-totals_tell : goal.returns-in_err-totals_tell
 unfolding read_as
-returns-then-of_totals-ne0 c =
-    rw c.totals_tell-of_totals.ensures (sym (
-    then-second (length_tells _ _) _ (rw (← c.length_tells-of_length.ensures) c.if-of_length-ne0.false) ∙
-    (then-second (records_tell _ _) _ (rw (← c.records_tell-of_records.ensures) c.if-of_records-ne0.false) ∙
-    then-first _ _ (rw (← c.totals_tell-of_totals.ensures) c.if-of_totals-ne0.true))))
+returns-in_err-totals_tell c =
+    let e : c.from_residual-in_err-totals_tell.result ≡ Err c.in_err-totals_tell.field-0.0 = search rules in
+    rw e (next _ _ _ c.in_ok-length_tells.ensures (next _ _ _ c.in_ok-records_tell.ensures (first _ _ _ c.in_err-totals_tell.ensures)))
 
 pub keys_tell-requires : goal.keys_tell-requires
 keys_tell-requires c =
-    let good = length-good _ _ (rw c.length_tells-of_length.ensures at c.if-of_length-ne0.false) in
-    record {
-      bound = good.fewest;
-      file_bound = good.most;
-    }
+    let whole = length-good _ _ (good _ c.in_ok-length_tells.ensures) in
+    record { bound = whole.fewest; file_bound = whole.most }
 
 pub returns : goal.returns
 unfolding read_as
-returns c =
-    rw c.keys_tell.ensures (sym (
-    then-second (length_tells _ _) _ (rw (← c.length_tells-of_length.ensures) c.if-of_length-ne0.false) ∙
-    (then-second (records_tell _ _) _ (rw (← c.records_tell-of_records.ensures) c.if-of_records-ne0.false) ∙
-    then-second (totals_tell _ _) (keys_tell _ _) (rw (← c.totals_tell-of_totals.ensures) c.if-of_totals-ne0.false))))
+returns c = next _ _ _ c.in_ok-length_tells.ensures (next _ _ _ c.in_ok-records_tell.ensures (next _ _ _ c.in_ok-totals_tell.ensures c.keys_tell.ensures))

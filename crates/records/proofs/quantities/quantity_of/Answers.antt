@@ -8,15 +8,16 @@ use native.Mathlib.Omega.{arith}
 use Rattle.records.proofs.quantities.quantity_of.Goals as goal
 
 pub loop-i-init : goal.loop-i-init
-loop-i-init c = (search rules, rw c.count-n.ensures, sym (sum-start _), search rules)
+loop-i-init c = (sym (sum-start _), search rules)
 
 pub loop-i-preserved : goal.loop-i-preserved
 loop-i-preserved c =
     let l = c.loop-i in
-    (search rules, l.invariant.1, rw (l.invariant.2, c.worth_at-sum.ensures.value) (sym (sum_more _ l.i)), omega (arith, l.invariant.3, c.worth_at-sum.ensures.upper_bound))
+    let w = c.worth_at-sum.ensures in
+    (rw (l.invariant.0, w.value) (sym (sum_more _ l.i)), omega (arith, l.invariant.1, w.upper_bound))
 
 pub returns : goal.returns
 unfolding quantity_of
 returns c =
     let l = c.loop-i in
-    rw (← l.invariant.1, le_antisymm c.loop-i-test.false l.invariant.0) l.invariant.2
+    rw (← c.data_count-i-end.ensures, le_antisymm c.loop-i-test.false l.auto.i-end) l.invariant.0

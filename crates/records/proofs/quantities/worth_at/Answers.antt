@@ -2,6 +2,7 @@
 use Rattle.tables.proofs.Tiling.{size-least}
 use Rattle.records.proofs.Places.{count_small}
 use Rattle.records.specs.Quantities.{worth_at}
+use borrow.Author.Rules.{rules}
 use native.Mathlib.Omega.{arith}
 use Rattle.records.proofs.quantities.worth_at.Goals as goal
 
@@ -15,8 +16,4 @@ worth-requires c = omega (arith, size-least c.args.kind, c.record_of.ensures.res
 
 pub returns : goal.returns
 unfolding worth_at
-returns c =
-    record {
-      value = rw (← c.record_of.ensures.result_value) c.worth.ensures.value;
-      upper_bound = c.worth.ensures.upper_bound;
-    }
+returns c = search rules

@@ -1,47 +1,48 @@
--- Each role of each kind by its table.
+-- Each role of each kind by its table, unfolded.
+use Rattle.std.proofs.Common.{rules}
+use Rattle.tables.specs.Tables.{enrolment_header, header_front, debit_header, enrolment_request_data, enrolment_data, data_front, enrolment_result_data, debit_request_data, debit_data, debit_result_data, bank_enrolment_data, enrolment_request_trailer, enrolment_trailer, trailer_front, enrolment_result_trailer, debit_request_trailer, debit_result_trailer}
 use Rattle.rows.proofs.by_record.rows_of.Goals as goal
 
 pub returns-in-EnrolmentRequest : goal.returns-in-EnrolmentRequest
-returns-in-EnrolmentRequest c = rw (c.in-Header.is, c.in-EnrolmentRequest.is) c.enrolment_header.ensures
-
-pub returns-in-EnrolmentResult : goal.returns-in-EnrolmentResult
-returns-in-EnrolmentResult c = rw (c.in-Header.is, c.in-EnrolmentResult.is) c.enrolment_header-in-EnrolmentResult.ensures
+unfolding enrolment_header header_front
+returns-in-EnrolmentRequest c = search rules
 
 pub returns-in-DebitRequest : goal.returns-in-DebitRequest
-returns-in-DebitRequest c = rw (c.in-Header.is, c.in-DebitRequest.is) c.debit_header.ensures
-
-pub returns-in-DebitResult : goal.returns-in-DebitResult
-returns-in-DebitResult c = rw (c.in-Header.is, c.in-DebitResult.is) c.debit_header-in-DebitResult.ensures
-
-pub returns-in-BankEnrolment : goal.returns-in-BankEnrolment
-returns-in-BankEnrolment c = rw (c.in-Header.is, c.in-BankEnrolment.is) c.enrolment_header-in-BankEnrolment.ensures
+unfolding debit_header header_front
+returns-in-DebitRequest c = search rules
 
 pub returns-in-EnrolmentRequest-form : goal.returns-in-EnrolmentRequest-form
-returns-in-EnrolmentRequest-form c = rw (c.in-Data.is, c.in-EnrolmentRequest-form.is) c.enrolment_request_data.ensures
+unfolding enrolment_request_data enrolment_data data_front
+returns-in-EnrolmentRequest-form c = search rules
 
-pub returns-in-EnrolmentResult-form : goal.returns-in-EnrolmentResult-form
-returns-in-EnrolmentResult-form c = rw (c.in-Data.is, c.in-EnrolmentResult-form.is) c.enrolment_result_data.ensures
+pub returns-in-EnrolmentResult : goal.returns-in-EnrolmentResult
+unfolding enrolment_result_data enrolment_data data_front
+returns-in-EnrolmentResult c = search rules
 
 pub returns-in-DebitRequest-form : goal.returns-in-DebitRequest-form
-returns-in-DebitRequest-form c = rw (c.in-Data.is, c.in-DebitRequest-form.is) c.debit_request_data.ensures
+unfolding debit_request_data debit_data data_front
+returns-in-DebitRequest-form c = search rules
 
-pub returns-in-DebitResult-form : goal.returns-in-DebitResult-form
-returns-in-DebitResult-form c = rw (c.in-Data.is, c.in-DebitResult-form.is) c.debit_result_data.ensures
+pub returns-in-DebitResult : goal.returns-in-DebitResult
+unfolding debit_result_data debit_data data_front
+returns-in-DebitResult c = search rules
 
-pub returns-in-BankEnrolment-form : goal.returns-in-BankEnrolment-form
-returns-in-BankEnrolment-form c = rw (c.in-Data.is, c.in-BankEnrolment-form.is) c.bank_enrolment_data.ensures
+pub returns-in-BankEnrolment : goal.returns-in-BankEnrolment
+unfolding bank_enrolment_data enrolment_data data_front
+returns-in-BankEnrolment c = search rules
 
 pub returns-in-EnrolmentRequest-form-2 : goal.returns-in-EnrolmentRequest-form-2
-returns-in-EnrolmentRequest-form-2 c = rw (c.in-Trailer.is, c.in-EnrolmentRequest-form-2.is) c.enrolment_request_trailer.ensures
+unfolding enrolment_request_trailer enrolment_trailer trailer_front
+returns-in-EnrolmentRequest-form-2 c = search rules
 
-pub returns-in-EnrolmentResult-form-2 : goal.returns-in-EnrolmentResult-form-2
-returns-in-EnrolmentResult-form-2 c = rw (c.in-Trailer.is, c.in-EnrolmentResult-form-2.is) c.enrolment_result_trailer.ensures
+pub returns-in-EnrolmentResult-form : goal.returns-in-EnrolmentResult-form
+unfolding enrolment_result_trailer enrolment_trailer trailer_front
+returns-in-EnrolmentResult-form c = search rules
 
 pub returns-in-DebitRequest-form-2 : goal.returns-in-DebitRequest-form-2
-returns-in-DebitRequest-form-2 c = rw (c.in-Trailer.is, c.in-DebitRequest-form-2.is) c.debit_request_trailer.ensures
+unfolding debit_request_trailer trailer_front
+returns-in-DebitRequest-form-2 c = search rules
 
-pub returns-in-DebitResult-form-2 : goal.returns-in-DebitResult-form-2
-returns-in-DebitResult-form-2 c = rw (c.in-Trailer.is, c.in-DebitResult-form-2.is) c.debit_result_trailer.ensures
-
-pub returns-in-BankEnrolment-form-2 : goal.returns-in-BankEnrolment-form-2
-returns-in-BankEnrolment-form-2 c = rw (c.in-Trailer.is, c.in-BankEnrolment-form-2.is) c.enrolment_result_trailer-in-BankEnrolment-form-2.ensures
+pub returns-in-DebitResult-form : goal.returns-in-DebitResult-form
+unfolding debit_result_trailer trailer_front
+returns-in-DebitResult-form c = search rules

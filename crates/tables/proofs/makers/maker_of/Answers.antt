@@ -1,13 +1,13 @@
 -- By its place.
-use mathlib.Core.Path.{sym}
-use Rattle.tables.proofs.Making.{bank-found, centre-found, none_found}
+use Rattle.std.proofs.Common.{sym, ◌∙◌}
+use Rattle.tables.proofs.Making.{bank-placed, centre-placed, none_placed}
 use Rattle.tables.proofs.makers.maker_of.Goals as goal
 
-pub returns-then-place-lt-BANKS : goal.returns-then-place-lt-BANKS
-returns-then-place-lt-BANKS c = sym (bank-found _ (rw (← c.place-place.ensures) c.if-place-lt-BANKS.true))
+pub returns-in-Some : goal.returns-in-Some
+returns-in-Some c = sym (bank-placed _ _ (sym c.place.ensures ∙ c.in-Some.is) c.if-place-lt-BANKS.true)
 
-pub returns-then-place-lt48 : goal.returns-then-place-lt48
-returns-then-place-lt48 c = sym (centre-found _ (rw (← c.place-place.ensures) c.if-place-lt-BANKS.false) (rw (← c.place-place.ensures) c.if-place-lt48.true))
+pub returns-in-Some-2 : goal.returns-in-Some-2
+returns-in-Some-2 c = sym (centre-placed _ _ (sym c.place.ensures ∙ c.in-Some.is) c.if-place-lt-BANKS.false)
 
-pub returns : goal.returns
-returns c = sym (none_found _ (rw (← c.place-place.ensures) c.if-place-lt48.false))
+pub returns-in-None : goal.returns-in-None
+returns-in-None c = sym (none_placed _ (sym c.place.ensures ∙ c.in-None.is))

@@ -10,5 +10,5 @@ returns c =
     let t = c.args.told in
     record {
       value = refl;
-      answer_after = rw c.numbers-numbers.ensures (ap (λ (l : List ℕ). t.answer.side ∷ t.answer.number ∷ t.answer.rec ∷ t.answer.item ∷ t.answer.code ∷ l) (five-of t.outcome));
+      answer_after = rw c.numbers.ensures (ap (λ (l : List ℕ). t.answer.side ∷ t.answer.number ∷ t.answer.rec ∷ t.answer.item ∷ t.answer.code ∷ l) (five-of t.outcome));
     }

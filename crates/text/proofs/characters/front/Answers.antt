@@ -1,34 +1,15 @@
--- `front` looks for the first byte that the set does not take.
-use Rattle.laws.proofs.Leasts.{least_start, least_more, least-stop}
-use Rattle.text.specs.Characters.{front, stops_at}
-use borrow.Author.Rules.{rules}
-use mathlib.Core.Path.{sym}
-use native.Mathlib.Nat.{le_antisymm}
+-- The first place that the set does not take, as `position` finds it.
+use Rattle.std.proofs.Common.{ℕ, not, ◌∙◌, rules, tests}
+use Rattle.std.proofs.lemmas.Iterator.{YieldsList-from_slice}
+use Rattle.std.proofs.lemmas.Iterator.Search.{position_from_yields_List}
+use Rattle.laws.proofs.Positions.{unwrapped_least}
+use Rattle.text.specs.Characters.{takes, front, stops_at}
 use Rattle.text.proofs.characters.front.Goals as goal
 
-pub loop-i-init : goal.loop-i-init
-loop-i-init c = (search rules, least_start _)
-
-pub returns-then-not-takes : goal.returns-then-not-takes
+pub returns-clause-value : goal.returns-clause-value
 unfolding front stops_at
-returns-then-not-takes c =
-    let l = c.loop-i in
-    record {
-      value = sym (least-stop _ l.i _ c.loop-i-test.true l.invariant.1 (rw (← c.takes.ensures) c.if-not-takes.true-raw));
-      upper_bound = search rules;
-    }
-
-pub loop-i-preserved : goal.loop-i-preserved
-unfolding stops_at
-loop-i-preserved c =
-    let l = c.loop-i in
-    (search rules, least_more _ l.i l.invariant.1 (rw (← c.takes.ensures) c.if-not-takes.false-raw))
-
-pub returns : goal.returns
-unfolding front
-returns c =
-    let l = c.loop-i in
-    record {
-      value = sym (rw (le_antisymm c.loop-i-test.false l.invariant.0) l.invariant.1);
-      upper_bound = search rules;
-    }
+returns-clause-value c =
+    let s = c.args.s.now in
+    let stops = λ (b : ℕ). not (takes c.args.set b) in
+    let found = position_from_yields_List stops _ _ c.position.result c.position.ensures.ran (YieldsList-from_slice s cc) (λ x b q k. search (rules, tests)) in
+    c.unwrap_or.ensures ∙ unwrapped_least stops s 0 c.position.result found

@@ -1,33 +1,41 @@
 -- The pair with the first result, the pair with the second, then the requests.
-use Rattle.two_results.proofs.Staged.{pair_read, story-first, story-second, story-both}
-use Rattle.answers.proofs.Refusals.{number_of}
-use mathlib.Core.Path.{sym, ◌∙◌}
+use Rattle.std.proofs.Common.{rules, ◌≡◌, sym, ◌∙◌}
+use Rattle.std.specs.Prelude.{Err}
+use Rattle.answers.specs.OfTwo.{answer_of_two, refused_story}
+use Rattle.two_results.specs.Comparing.{story}
+use Rattle.two_results.proofs.Staged.{pair_read, bad-story, story-first, story-second, story-both}
 use Rattle.two_results.proofs.comparing.story_as.Goals as goal
 
-pub returns-then-of_first-ne0 : goal.returns-then-of_first-ne0
-returns-then-of_first-ne0 c =
+pub returns-in_err-map_err : goal.returns-in_err-map_err
+returns-in_err-map_err c =
     let a = c.args in
-    c.refused_by.ensures ∙ rw c.pair_by-of_first.ensures
-    (sym (story-first a.pair a.request.now a.first.now a.second.now (λ z. c.if-of_first-ne0.true (number_of c.pair_by-of_first.ensures ∙ z))))
+    let e : c.from_residual.result ≡ Err c.in_err-map_err.field-0.0 = search rules in
+    let told : refused_story c.in_err-map_err.field-0.0 ≡ story (answer_of_two c.pair_by.result) 1 0 = search rules in
+    let first = rw c.pair_by.ensures at told in
+    rw e (first ∙ sym (story-first a.pair a.request.now a.first.now a.second.now (bad-story _ _ 1 first)))
 
-pub returns-then-of_second-ne0 : goal.returns-then-of_second-ne0
-returns-then-of_second-ne0 c =
+pub returns-in_err-map_err-2 : goal.returns-in_err-map_err-2
+returns-in_err-map_err-2 c =
     let a = c.args in
-    c.refused_by-then-of_second-ne0.ensures ∙ rw c.pair_by-of_second.ensures
-    (sym (story-second a.pair a.request.now a.first.now a.second.now (number_of (sym c.pair_by-of_first.ensures) ∙ c.if-of_first-ne0.false)
-    (λ z. c.if-of_second-ne0.true (number_of c.pair_by-of_second.ensures ∙ z))))
+    let e : c.from_residual-in_err-map_err-2.result ≡ Err c.in_err-map_err-2.field-0.0 = search rules in
+    let good : (answer_of_two c.pair_by.result).number ≡ 0 = search rules in
+    let told : refused_story c.in_err-map_err-2.field-0.0 ≡ story (answer_of_two c.pair_by-2.result) 2 0 = search rules in
+    let second = rw c.pair_by-2.ensures at told in
+    rw e (second ∙ sym (story-second a.pair a.request.now a.first.now a.second.now (rw c.pair_by.ensures at good) (bad-story _ _ 2 second)))
 
 pub first_other-requires : goal.first_other-requires
 first_other-requires c =
     let a = c.args in
+    let first : (answer_of_two c.pair_by.result).number ≡ 0 = search rules in
+    let second : (answer_of_two c.pair_by-2.result).number ≡ 0 = search rules in
     record {
-      both_read = pair_read a.pair a.request.now a.first.now (number_of (sym c.pair_by-of_first.ensures) ∙ c.if-of_first-ne0.false);
-      both_read_2 = pair_read a.pair a.request.now a.second.now (number_of (sym c.pair_by-of_second.ensures) ∙ c.if-of_second-ne0.false);
+      both_read = pair_read a.pair a.request.now a.first.now (rw c.pair_by.ensures at first);
+      both_read_2 = pair_read a.pair a.request.now a.second.now (rw c.pair_by-2.ensures at second);
     }
 
 pub returns : goal.returns
 returns c =
     let a = c.args in
-    rw (c.first_other.ensures, c.accepted.ensures)
-    (sym (story-both a.pair a.request.now a.first.now a.second.now (number_of (sym c.pair_by-of_first.ensures) ∙ c.if-of_first-ne0.false)
-    (number_of (sym c.pair_by-of_second.ensures) ∙ c.if-of_second-ne0.false)))
+    let first : (answer_of_two c.pair_by.result).number ≡ 0 = search rules in
+    let second : (answer_of_two c.pair_by-2.result).number ≡ 0 = search rules in
+    rw c.first_other.ensures (sym (story-both a.pair a.request.now a.first.now a.second.now (rw c.pair_by.ensures at first) (rw c.pair_by-2.ensures at second)))

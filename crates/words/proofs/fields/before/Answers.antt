@@ -1,15 +1,15 @@
--- Where the loop stops is the first place of b, or the end.
-use Rattle.std.proofs.Common.{rules, arith, sym, eq-eqb}
-use Rattle.std.proofs.lemmas.List.Sums.{position_or_len_is}
+-- The first place of b, as `position` finds it.
+use Rattle.std.proofs.Common.{ℕ, eqb, ◌∙◌, rules, tests}
+use Rattle.std.proofs.lemmas.Iterator.{YieldsList-from_slice}
+use Rattle.std.proofs.lemmas.Iterator.Search.{position_from_yields_List}
+use Rattle.laws.proofs.Positions.{unwrapped_position}
 use Rattle.words.specs.Fields.{index_of}
 use Rattle.words.proofs.fields.before.Goals as goal
 
-pub returns-then-x-b-clause-value : goal.returns-then-x-b-clause-value
-unfolding index_of
-returns-then-x-b-clause-value c =
-    sym
-    (position_or_len_is _ c.args.s.now c.loop-i.i 0 (omega arith) c.loop-i.invariant (λ _. eq-eqb _ _ c.if-x-b.true))
-
 pub returns-clause-value : goal.returns-clause-value
 unfolding index_of
-returns-clause-value c = sym (position_or_len_is _ c.args.s.now _ 0 (omega arith) (search rules) (λ h. absurd (omega arith)))
+returns-clause-value c =
+    let s = c.args.s.now in
+    let is = λ (x : ℕ). eqb x c.args.b in
+    let found = position_from_yields_List is _ _ c.position.result c.position.ensures.ran (YieldsList-from_slice s cc) (λ x b q k. search (rules, tests)) in
+    c.unwrap_or.ensures ∙ unwrapped_position is s 0 c.position.result found

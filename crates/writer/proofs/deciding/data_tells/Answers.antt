@@ -1,60 +1,63 @@
 -- The loop looks for the first record that breaks a row, and sums up those before it.
-use Rattle.answers.proofs.Refusals.{told_more, told-stop, told-end, number_of}
-use Rattle.laws.proofs.Leasts.{least_start}
+use Rattle.std.specs.Prelude.{Err}
+use Rattle.answers.proofs.Tellings.{loop-start, loop-stop, loop-more, loop-end}
 use Rattle.records.specs.Records.{record_of}
 use Rattle.writer.proofs.Frame.{frame-count}
 use Rattle.writer.proofs.Summed.{sums-start, sums-more, sums-small}
-use Rattle.writer.specs.Writing.{data_told}
 use borrow.Author.Rules.{rules}
-use mathlib.Core.Path.{refl, sym, ◌∙◌}
+use mathlib.Core.Path.{◌≡◌, refl, ◌∙◌}
 use native.Mathlib.Nat.{le_antisymm}
 use native.Mathlib.Omega.{arith}
 use Rattle.writer.proofs.deciding.data_tells.Goals as goal
 
 pub loop-i-init : goal.loop-i-init
-loop-i-init c = (search rules, refl, refl, least_start _, sums-start _ _ _)
-
-pub shape_of-frame-then-answer-ne0 : goal.shape_of-frame-then-answer-ne0
-shape_of-frame-then-answer-ne0 c = c.record_tells-answer.auto.frame ∙ c.loop-i.invariant.1
-
-pub returns-then-answer-ne0 : goal.returns-then-answer-ne0
-returns-then-answer-ne0 c =
-    let l = c.loop-i in
-    let p = c.record_tells-answer in
-    let told = rw l.invariant.2 at p.ensures.value in
+loop-i-init c =
     record {
-      answer_value = told ∙ sym (told-stop (data_told _ _ _) l.i _ c.loop-i-test.true l.invariant.3 (λ z. c.if-answer-ne0.true (number_of told ∙ z)));
-      sums_value = λ z. absurd (c.if-answer-ne0.true z);
-      frame_unchanged = p.ensures.frame_unchanged ∙ l.invariant.2;
+      long = c.told-frame;
+      still = refl;
+      so_far = loop-start _;
+      summed = sums-start _ _ _;
     }
 
-pub with_record-more-requires : goal.with_record-more-requires
-with_record-more-requires c =
+pub returns-in_err-record_tells : goal.returns-in_err-record_tells
+returns-in_err-record_tells c =
     let l = c.loop-i in
-    let p = c.record_tells-answer in
+    let e : c.from_residual.result ≡ Err c.in_err-record_tells.field-0.0 = search rules in
+    rw e (record {
+      answer_value = loop-stop _ _ l.i _ c.loop-i-test.true l.invariant.so_far (rw l.invariant.still at c.in_err-record_tells.ensures.value);
+      sums_value = tt;
+      frame_unchanged = c.in_err-record_tells.ensures.frame_unchanged ∙ l.invariant.still;
+    })
+
+pub add_record-requires : goal.add_record-requires
+add_record-requires c =
+    let l = c.loop-i in
     let a = c.args in
     record {
-      bound = frame-count a.kind p.new.frame (omega (arith, p.auto.frame, l.invariant.1, c.requires.in_bounds));
-      by_index = λ t h. rw l.invariant.4 (sums-small a.kind (record_of a.kind a.frame.now 0) a.bodies.now l.i (omega (arith, l.invariant.0, c.requires.n_le_limit)) t h);
+      bound = frame-count a.kind c.record_tells.new.frame (omega arith);
+      by_index = λ t h. rw l.invariant.summed (sums-small a.kind (record_of a.kind a.frame.now 0) a.bodies.now l.i (omega arith) t h);
     }
 
 pub loop-i-preserved : goal.loop-i-preserved
 loop-i-preserved c =
     let l = c.loop-i in
-    let p = c.record_tells-answer in
     let a = c.args in
-    let told = rw l.invariant.2 at p.ensures.value in
-    (search rules, p.auto.frame ∙ l.invariant.1, p.ensures.frame_unchanged ∙ l.invariant.2, told_more (data_told _ _ _) l.i l.invariant.3 (number_of (sym told) ∙ c.if-answer-ne0.false), c.with_record-more.ensures ∙ rw (p.ensures.frame_after, l.invariant.2, l.invariant.4) (sums-more a.kind (record_of a.kind a.frame.now 0) a.bodies.now l.i))
-
-pub shape_of-frame : goal.shape_of-frame
-shape_of-frame c = c.loop-i.invariant.1
+    let told = c.in_ok-record_tells.ensures in
+    record {
+      long = omega arith;
+      still = told.frame_unchanged ∙ l.invariant.still;
+      so_far = loop-more _ l.i l.invariant.so_far (rw l.invariant.still at told.value);
+      summed =
+          c.add_record.ensures ∙
+          rw (told.frame_after, l.invariant.still, l.invariant.summed) (sums-more a.kind (record_of a.kind a.frame.now 0) a.bodies.now l.i);
+    }
 
 pub returns : goal.returns
 returns c =
     let l = c.loop-i in
-    let e = le_antisymm c.loop-i-test.false l.invariant.0 in
+    let e = le_antisymm c.loop-i-test.false l.auto.i-end in
     record {
-      answer_value = c.accepted.ensures ∙ sym (told-end (data_told _ _ _) _ (rw e l.invariant.3));
-      sums_value = λ _. rw e l.invariant.4;
-      frame_unchanged = l.invariant.2;
+      answer_value = loop-end _ l.i _ c.loop-i-test.false l.auto.i-end l.invariant.so_far;
+      sums_value = rw (← e) at l.invariant.summed;
+      frame_unchanged = l.invariant.still;
     }

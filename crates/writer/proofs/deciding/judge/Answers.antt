@@ -1,50 +1,40 @@
 -- Stage by stage, as reading the file to be written says.
-use Rattle.builder.specs.Records.{head_of}
-use Rattle.writer.proofs.Decided.{by-header, by-data, by-trailer, by-keys}
-use native.Mathlib.Omega.{arith}
+use Rattle.std.specs.Prelude.{Err}
+use Rattle.answers.proofs.Tellings.{first, next}
+use Rattle.builder.specs.Records.{given}
+use Rattle.writer.proofs.Decided.{stages}
+use borrow.Author.Rules.{rules}
+use mathlib.Core.Path.{◌≡◌, refl}
 use Rattle.writer.proofs.deciding.judge.Goals as goal
 
-pub returns-then-of_header-ne0 : goal.returns-then-of_header-ne0
-returns-then-of_header-ne0 c =
+pub returns-in_err-header_tells : goal.returns-in_err-header_tells
+returns-in_err-header_tells c =
     let a = c.args in
-    let h = head_of a.date.now a.code.now a.item6.now a.item7.now in
-    by-header a.kind h a.bodies.now a.n c.requires.n_value c.requires.n_le_limit _ c.header_tells-of_header.ensures.value c.if-of_header-ne0.true
+    let all = stages a.kind (given a.head) a.bodies.now a.n c.requires.n_value c.requires.n_le_limit _ refl _ refl _ refl in
+    let e : c.from_residual.result ≡ Err c.in_err-header_tells.field-0.0 = search rules in
+    rw (e, all) (first _ _ _ c.in_err-header_tells.ensures.value)
 
-pub data_tells-of_data-requires : goal.data_tells-of_data-requires
-data_tells-of_data-requires c =
-    record {
-      n_le_limit = c.requires.n_le_limit;
-      in_bounds = omega (arith, c.header_tells-of_header.auto.frame);
-    }
-
-pub returns-then-of_data-ne0 : goal.returns-then-of_data-ne0
-returns-then-of_data-ne0 c =
+pub returns-in_err-sums : goal.returns-in_err-sums
+returns-in_err-sums c =
     let a = c.args in
-    let h = head_of a.date.now a.code.now a.item6.now a.item7.now in
-    by-data a.kind h a.bodies.now a.n c.requires.n_value c.requires.n_le_limit _ c.header_tells-of_header.ensures.value c.if-of_header-ne0.false _ c.header_tells-of_header.ensures.frame_after _ c.data_tells-of_data.ensures.answer_value c.if-of_data-ne0.true
+    let header = c.in_ok-header_tells.ensures in
+    let all = stages a.kind (given a.head) a.bodies.now a.n c.requires.n_value c.requires.n_le_limit _ header.frame_after _ refl _ refl in
+    let e : c.from_residual-in_err-sums.result ≡ Err c.in_err-sums.field-0.0 = search rules in
+    rw (e, all) (next _ _ _ header.value (first _ _ _ c.in_err-sums.ensures.answer_value))
 
-pub trailer_tells-of_trailer-requires : goal.trailer_tells-of_trailer-requires
-trailer_tells-of_trailer-requires c =
-    record {
-      n_le_limit = c.requires.n_le_limit;
-      in_bounds = omega (arith, c.data_tells-of_data.auto.frame, c.header_tells-of_header.auto.frame);
-    }
-
-pub returns-then-of_trailer-ne0 : goal.returns-then-of_trailer-ne0
-returns-then-of_trailer-ne0 c =
+pub returns-in_err-trailer_tells : goal.returns-in_err-trailer_tells
+returns-in_err-trailer_tells c =
     let a = c.args in
-    let h = head_of a.date.now a.code.now a.item6.now a.item7.now in
-    by-trailer a.kind h a.bodies.now a.n c.requires.n_value c.requires.n_le_limit _ c.header_tells-of_header.ensures.value c.if-of_header-ne0.false _ c.header_tells-of_header.ensures.frame_after _ c.data_tells-of_data.ensures.answer_value c.if-of_data-ne0.false _ (c.data_tells-of_data.ensures.sums_value c.if-of_data-ne0.false) _ c.data_tells-of_data.ensures.frame_unchanged _ c.trailer_tells-of_trailer.ensures c.if-of_trailer-ne0.true
-
-pub keys_tell-requires : goal.keys_tell-requires
-keys_tell-requires c =
-    record {
-      n_value = c.requires.n_value;
-      n_le_limit = c.requires.n_le_limit;
-    }
+    let header = c.in_ok-header_tells.ensures in
+    let bodies = c.in_ok-sums.ensures in
+    let all = stages a.kind (given a.head) a.bodies.now a.n c.requires.n_value c.requires.n_le_limit _ header.frame_after _ bodies.frame_unchanged _ bodies.sums_value in
+    let e : c.from_residual-in_err-trailer_tells.result ≡ Err c.in_err-trailer_tells.field-0.0 = search rules in
+    rw (e, all) (next _ _ _ header.value (next _ _ _ bodies.answer_value (first _ _ _ c.in_err-trailer_tells.ensures)))
 
 pub returns : goal.returns
 returns c =
     let a = c.args in
-    let h = head_of a.date.now a.code.now a.item6.now a.item7.now in
-    by-keys a.kind h a.bodies.now a.n c.requires.n_value c.requires.n_le_limit _ c.header_tells-of_header.ensures.value c.if-of_header-ne0.false _ c.header_tells-of_header.ensures.frame_after _ c.data_tells-of_data.ensures.answer_value c.if-of_data-ne0.false _ (c.data_tells-of_data.ensures.sums_value c.if-of_data-ne0.false) _ c.data_tells-of_data.ensures.frame_unchanged _ c.trailer_tells-of_trailer.ensures c.if-of_trailer-ne0.false _ c.keys_tell.ensures
+    let header = c.in_ok-header_tells.ensures in
+    let bodies = c.in_ok-sums.ensures in
+    let all = stages a.kind (given a.head) a.bodies.now a.n c.requires.n_value c.requires.n_le_limit _ header.frame_after _ bodies.frame_unchanged _ bodies.sums_value in
+    rw all (next _ _ _ header.value (next _ _ _ bodies.answer_value (next _ _ _ c.in_ok-trailer_tells.ensures c.keys_tell.ensures)))

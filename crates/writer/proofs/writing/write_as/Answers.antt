@@ -1,86 +1,84 @@
 -- Refusals first, then the answer of reading; only what is accepted is stored.
-use Rattle.tables.proofs.Tiling.{size-least}
-use Rattle.kinds.specs.Kinds.{fixed_of}
-use Rattle.builder.proofs.Sizes.{body-size, frame-fits}
-use Rattle.writer.proofs.Written.{told-2, told-3, told-8, told-read, told-good}
-use Rattle.writer.specs.Writing.{parts_fit}
-use Rattle.builder.specs.Records.{head_of}
-use mathlib.Core.Path.{◌≡◌, refl, ◌∙◌}
-use native.Mathlib.Omega.{arith}
+use Rattle.std.specs.Prelude.{Err}
+use Rattle.answers.specs.declared.refusing.Refusal.TheVariants.{Length, TooMany, ShortRoom}
+use Rattle.builder.specs.Records.{given, body_count}
+use Rattle.writer.proofs.Written.{write-2, write-3, write-8, write_read, room-kept, room-filled}
+use borrow.Author.Rules.{rules}
+use mathlib.Core.Path.{◌≡◌, sym, ◌∙◌}
 use Rattle.writer.proofs.writing.write_as.Goals as goal
 
-pub parts_fit-requires : goal.parts_fit-requires
-parts_fit-requires c = rw c.of-fixed.ensures (omega (arith, body-size c.args.kind, size-least c.args.kind))
+pub returns-then-not-parts_fit : goal.returns-then-not-parts_fit
+returns-then-not-parts_fit c =
+    let a = c.args in
+    let h = given a.head in
+    let fits = rw c.of-fixed.ensures at c.parts_fit.ensures in
+    let told = sym (write-2 a.kind h a.bodies.now a.room.now (sym fits ∙ c.if-not-parts_fit.true)) in
+    record {
+      value = told;
+      room_after = room-kept a.kind h a.bodies.now a.room.now Length told;
+    }
 
 pub returns-then-n-gt-LIMIT : goal.returns-then-n-gt-LIMIT
+unfolding body_count
 returns-then-n-gt-LIMIT c =
-    let fits : c.parts_fit.result ≡ parts_fit (head_of c.args.date.now c.args.code.now c.args.item6.now c.args.item7.now) c.args.bodies.now (fixed_of c.args.kind).item6 (fixed_of c.args.kind).item7 (fixed_of c.args.kind).body =
-    c.parts_fit.ensures ∙ rw c.of-fixed.ensures in
     let a = c.args in
-    let h = head_of a.date.now a.code.now a.item6.now a.item7.now in
-    let q = told-3 a.kind h a.bodies.now a.room.now _ _ (fits) _ _ c.body_count-n.ensures refl c.if-parts_fit.true c.if-n-gt-LIMIT.true c.refused.ensures in
+    let h = given a.head in
+    let fits = rw c.of-fixed.ensures at c.parts_fit.ensures in
+    let told = sym (write-3 a.kind h a.bodies.now a.room.now (sym fits ∙ c.if-not-parts_fit.false) (rw c.of-fixed.ensures at c.if-n-gt-LIMIT.true)) in
     record {
-      value = q.0;
-      room_after = q.1;
+      value = told;
+      room_after = room-kept a.kind h a.bodies.now a.room.now TooMany told;
     }
-
-pub overflow_mul-n : goal.overflow_mul-n
-overflow_mul-n c = rw c.size_of.ensures (omega (arith, frame-fits c.args.kind c.body_count-n.result c.if-n-gt-LIMIT.false))
 
 pub returns-then-room-n : goal.returns-then-room-n
+unfolding body_count
 returns-then-room-n c =
-    let fits : c.parts_fit.result ≡ parts_fit (head_of c.args.date.now c.args.code.now c.args.item6.now c.args.item7.now) c.args.bodies.now (fixed_of c.args.kind).item6 (fixed_of c.args.kind).item7 (fixed_of c.args.kind).body =
-    c.parts_fit.ensures ∙ rw c.of-fixed.ensures in
     let a = c.args in
-    let h = head_of a.date.now a.code.now a.item6.now a.item7.now in
-    let q = told-8 a.kind h a.bodies.now a.room.now _ _ (fits) _ _ c.body_count-n.ensures c.size_of.ensures c.if-parts_fit.true c.if-n-gt-LIMIT.false c.if-room-n.true c.refused-then-room-n.ensures in
+    let h = given a.head in
+    let fits = rw c.of-fixed.ensures at c.parts_fit.ensures in
+    let told =
+    sym (write-8 a.kind h a.bodies.now a.room.now (sym fits ∙ c.if-not-parts_fit.false) (rw c.of-fixed.ensures at c.if-n-gt-LIMIT.false)
+    (rw c.of-fixed.ensures at c.if-room-n.true)) in
     record {
-      value = q.0;
-      room_after = q.1;
+      value = told;
+      room_after = room-kept a.kind h a.bodies.now a.room.now ShortRoom told;
     }
 
-pub put-requires : goal.put-requires
-put-requires c =
-    record {
-      n_value = c.body_count-n.ensures;
-      n_le_limit = c.if-n-gt-LIMIT.false;
-      kind_in_bounds = rw c.size_of.ensures at c.if-room-n.false;
-    }
+pub judge-requires-clause-n_value : goal.judge-requires-clause-n_value
+unfolding body_count
+judge-requires-clause-n_value c = rw c.of-fixed.ensures
 
-pub returns-then-answer-eq0 : goal.returns-then-answer-eq0
-returns-then-answer-eq0 c =
-    let fits : c.parts_fit.result ≡ parts_fit (head_of c.args.date.now c.args.code.now c.args.item6.now c.args.item7.now) c.args.bodies.now (fixed_of c.args.kind).item6 (fixed_of c.args.kind).item7 (fixed_of c.args.kind).body =
-    c.parts_fit.ensures ∙ rw c.of-fixed.ensures in
+pub returns-in_err-judge : goal.returns-in_err-judge
+unfolding body_count
+returns-in_err-judge c =
     let a = c.args in
-    let h = head_of a.date.now a.code.now a.item6.now a.item7.now in
-    let q = told-good a.kind h a.bodies.now a.room.now _ _ (fits) _ _ c.body_count-n.ensures c.size_of.ensures c.if-parts_fit.true c.if-n-gt-LIMIT.false c.if-room-n.false
-    c.judge-answer.ensures _ c.if-answer-eq0.true c.put.ensures in
-    record {
-      value = q.0;
-      room_after = q.1;
-    }
+    let h = given a.head in
+    let fits = rw c.of-fixed.ensures at c.parts_fit.ensures in
+    let read =
+    write_read a.kind h a.bodies.now a.room.now (sym fits ∙ c.if-not-parts_fit.false) (rw c.of-fixed.ensures at c.if-n-gt-LIMIT.false)
+    (rw c.of-fixed.ensures at c.if-room-n.false) in
+    let told = c.in_err-judge.ensures ∙ sym read in
+    let e : c.from_residual.result ≡ Err c.in_err-judge.field-0.0 = search rules in
+    rw e (record {
+      value = told;
+      room_after = room-kept a.kind h a.bodies.now a.room.now c.in_err-judge.field-0.0 told;
+    })
 
-pub returns-else-answer-eq0 : goal.returns-else-answer-eq0
-returns-else-answer-eq0 c =
-    let fits : c.parts_fit.result ≡ parts_fit (head_of c.args.date.now c.args.code.now c.args.item6.now c.args.item7.now) c.args.bodies.now (fixed_of c.args.kind).item6 (fixed_of c.args.kind).item7 (fixed_of c.args.kind).body =
-    c.parts_fit.ensures ∙ rw c.of-fixed.ensures in
-    let a = c.args in
-    let h = head_of a.date.now a.code.now a.item6.now a.item7.now in
-    let q = told-read a.kind h a.bodies.now a.room.now _ _ (fits) _ _ c.body_count-n.ensures c.size_of.ensures c.if-parts_fit.true c.if-n-gt-LIMIT.false c.if-room-n.false
-    c.judge-answer.ensures c.if-answer-eq0.false in
-    record {
-      value = q.0;
-      room_after = q.1;
-    }
+pub put-requires-clause-n_value : goal.put-requires-clause-n_value
+unfolding body_count
+put-requires-clause-n_value c = rw c.of-fixed.ensures
 
 pub returns : goal.returns
+unfolding body_count
 returns c =
-    let fits : c.parts_fit.result ≡ parts_fit (head_of c.args.date.now c.args.code.now c.args.item6.now c.args.item7.now) c.args.bodies.now (fixed_of c.args.kind).item6 (fixed_of c.args.kind).item7 (fixed_of c.args.kind).body =
-    c.parts_fit.ensures ∙ rw c.of-fixed.ensures in
     let a = c.args in
-    let h = head_of a.date.now a.code.now a.item6.now a.item7.now in
-    let q = told-2 a.kind h a.bodies.now a.room.now _ _ (fits) c.if-parts_fit.false c.refused-2.ensures in
+    let h = given a.head in
+    let fits = rw c.of-fixed.ensures at c.parts_fit.ensures in
+    let read =
+    write_read a.kind h a.bodies.now a.room.now (sym fits ∙ c.if-not-parts_fit.false) (rw c.of-fixed.ensures at c.if-n-gt-LIMIT.false)
+    (rw c.of-fixed.ensures at c.if-room-n.false) in
+    let told = c.in_ok-judge.ensures ∙ sym read in
     record {
-      value = q.0;
-      room_after = q.1;
+      value = told;
+      room_after = room-filled a.kind h a.bodies.now a.room.now _ told (rw c.of-fixed.ensures at c.put.ensures);
     }
