@@ -8,3 +8,4 @@ pub mod Built
 pub mod Bodies
 pub mod Made
 pub mod Pieces
+pub mod Laying

@@ -32,15 +32,15 @@ use Rattle.builder.specs.Bytes.{over_row, over, row_over}
 use Rattle.builder.proofs.Rows.{row-small}
 
 -- a row is over the places from its start to its end
-over-if : (r : Row) (j : ℕ) → r.1 ≤ j → j < r.1 + r.2 → over_row r j ≡ true
+pub over-if : (r : Row) (j : ℕ) → r.1 ≤ j → j < r.1 + r.2 → over_row r j ≡ true
 unfolding over_row
 over-if r j a b = rw (le-leb r.1 j a, lt-ltb j (r.1 + r.2) b)
 
-over-low : (r : Row) (j : ℕ) → over_row r j ≡ true → r.1 ≤ j
+pub over-low : (r : Row) (j : ℕ) → over_row r j ≡ true → r.1 ≤ j
 unfolding over_row
 over-low r j t = leb-true r.1 j (and_left (leb r.1 j) (ltb j (r.1 + r.2)) t)
 
-over-high : (r : Row) (j : ℕ) → over_row r j ≡ true → j < r.1 + r.2
+pub over-high : (r : Row) (j : ℕ) → over_row r j ≡ true → j < r.1 + r.2
 unfolding over_row
 over-high r j t = ltb-true j (r.1 + r.2) (and_right (leb r.1 j) (ltb j (r.1 + r.2)) t)
 

@@ -35,20 +35,20 @@ module _ (at : ℕ) (x old : List ℕ) (fits : at + length x ≤ length old) (j 
   long : length (take at old ++ x) ≡ at + length x
   long = length-append (take at old) x ∙ rw taken
 
-  stored_in : at ≤ j → j < at + length x → get_or (stored at x old) j 0 ≡ get_or x (j - at) 0
+  pub stored_in : at ≤ j → j < at + length x → get_or (stored at x old) j 0 ≡ get_or x (j - at) 0
   stored_in a b =
       let l = long in
       let t = taken in
       get_or-append (take at old ++ x) (drop (at + length x) old) 0 j (omega arith) ∙ (get_or-append_right (take at old) x j 0 (omega arith) ∙ rw t)
 
-  stored_low : j < at → get_or (stored at x old) j 0 ≡ get_or old j 0
+  pub stored_low : j < at → get_or (stored at x old) j 0 ≡ get_or old j 0
   stored_low h =
       let l = long in
       let t = taken in
       get_or-append (take at old ++ x) (drop (at + length x) old) 0 j (omega arith) ∙
       (get_or-append (take at old) x 0 j (omega arith) ∙ get_or-take at old j 0 h)
 
-  stored_past : at + length x ≤ j → get_or (stored at x old) j 0 ≡ get_or old j 0
+  pub stored_past : at + length x ≤ j → get_or (stored at x old) j 0 ≡ get_or old j 0
   stored_past h =
       let l = long in
       get_or-append_right (take at old ++ x) (drop (at + length x) old) j 0 (omega arith) ∙

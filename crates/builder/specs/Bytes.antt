@@ -1,6 +1,7 @@
 -- What stands at a place of a record to be written, by the row over it.
 use Rattle.std.specs.Prelude.{ℕ, ◌+◌, Bool, cond, ◌&&◌, List, leb, ltb, eqb, length, get_or}
 use Rattle.laws.specs.Least.{least}
+use Rattle.laws.specs.Tabulate.{tabulate}
 use Rattle.tables.specs.declared.row.Row.{Row}
 use Rattle.tables.specs.declared.row.Class.{Class}
 use Rattle.tables.specs.declared.row.Class.TheVariants.{Each, CodeText, Filled, Owner, Institution, KindName, Date, NameDate, Serial, AsHeader, NotLater, Office, NotZero, Failed, FailedOrPart, Least, LongDate, HeaderFrom, Extension, PassbookForm, OneOf}
@@ -15,6 +16,10 @@ over rows j i = over_row (get_or rows i blank) j
 
 unfoldable pub row_over : List Row → ℕ → Row
 row_over rows j = get_or rows (least (over rows j) (length rows)) blank
+
+-- what a row writes at its places, by what it writes at each
+unfoldable pub written : (Row → ℕ → ℕ) → Row → List ℕ
+written fill r = tabulate (λ d. fill r (r.1 + d)) r.2
 
 -- what a class writes: its one byte, the kind's letter, the serial's digit, the header's byte; else what is given
 abbrev pub fill_by : Class → ℕ → ℕ → ℕ → ℕ → ℕ

@@ -84,9 +84,13 @@ total_is k item t = eqb (get_or (totals_of k) t no_total).0 item
 unfoldable pub total_for : Kind → List ℕ → ℕ → ℕ
 total_for k totals item = get_or totals (least (total_is k item) (length (totals_of k))) 0
 
--- what a row of the trailer writes at place j, where its item's total is n; byte j of the trailer
+-- what a row of the trailer writes at place j, where its item's total is n
 unfoldable pub trailer_fill : Row → List ℕ → ℕ → ℕ → ℕ
 trailer_fill r header n j = fill_by r.3 (get_or (digits_of r.2 n) (j - r.1) 0) 0 0 (get_or header j 0)
+
+-- by the totals, and byte j of the trailer
+unfoldable pub trailer_by : Kind → List ℕ → List ℕ → Row → ℕ → ℕ
+trailer_by k header totals r j = trailer_fill r header (total_for k totals r.0) j
 
 unfoldable pub trailer_byte : Kind → List ℕ → List ℕ → ℕ → ℕ
 trailer_byte k header totals j =
