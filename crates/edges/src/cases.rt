@@ -28,8 +28,16 @@ impl<'a> Case<'a> {
         fields::field(n, b'|', self.line)
     }
 
-    pub(crate) fn name(self) -> &'a str {
-        str::from_utf8(self.word(1)).unwrap_or("")
+    // The name, to begin a line with. One that is no text is written here, byte for byte, and leaves nothing to print.
+    pub(crate) fn name(self, rt: &impl Print) -> io::Result<&'a str> {
+        let name = self.word(1);
+        match str::from_utf8(name) {
+            Ok(text) => Ok(text),
+            Err(_) => {
+                rt.write_all(name)?;
+                Ok("")
+            }
+        }
     }
 
     pub(crate) fn kind(self) -> u64 {

@@ -9,7 +9,9 @@ pub(crate) fn read_full(from: &mut impl Read, room: &mut [u8]) -> usize
     ensures { result ≤ length room.new }
 {
     let mut done = 0;
-    while let Ok(more @ 1..) = from.read(&mut room[done..]) {
+    while done < room.len()
+        && let Ok(more @ 1..) = from.read(&mut room[done..])
+    {
         done += more;
     }
     done

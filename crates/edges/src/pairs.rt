@@ -9,6 +9,7 @@ use outcomes::asking;
 use pair::pairing;
 use std::io;
 use std::io::Print;
+use words::fields;
 
 #[derive(Clone, Copy)]
 struct Pair<'a> {
@@ -25,7 +26,7 @@ fn tell_answer(rt: &impl Print, case: Case<'_>, pair: Pair<'_>) -> io::Result<()
     let not_taken = &mut not_taken[..case.count(4).min(PLACES)];
     let told = pairing::pair(pair.kind, pair.request, pair.res, taken, not_taken);
     let answer = Told(Answer::of_two(told));
-    let name = case.name();
+    let name = case.name(rt)?;
     let taken = List(taken);
     let not_taken = List(not_taken);
     println!(rt; "{name} {answer} taken{taken} not{not_taken}")
@@ -34,7 +35,7 @@ fn tell_answer(rt: &impl Print, case: Case<'_>, pair: Pair<'_>) -> io::Result<()
 // Tells what became of one request.
 fn tell_outcome(rt: &impl Print, case: Case<'_>, pair: Pair<'_>, rec: u64) -> io::Result<()> {
     let told = asking::outcome(pair.kind, pair.request, pair.res, rec);
-    let name = case.name();
+    let name = case.name(rt)?;
     let answer = Told(told.answer);
     let outcome = Became(told.outcome);
     println!(rt; "{name} of {rec} {answer} {outcome}")
@@ -50,10 +51,10 @@ pub(crate) fn run(rt: &impl Print, case: Case<'_>) -> io::Result<()> {
         res: good::build(case.samples, case.part(2), &mut res),
     };
     tell_answer(rt, case, pair)?;
-    for word in case.part(3).split(|b| *b == b' ') {
-        if !word.is_empty() {
-            tell_outcome(rt, case, pair, values::number(word))?;
-        }
+    // No word is left out: an empty one asks for record 0. Nothing follows a blank at the end.
+    for word in case.part(3).split_inclusive(|b| *b == b' ') {
+        let rec = values::number(fields::head(b' ', word));
+        tell_outcome(rt, case, pair, rec)?;
     }
     Ok(())
 }

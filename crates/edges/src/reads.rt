@@ -10,7 +10,7 @@ use std::io::Print;
 pub(crate) fn run(rt: &impl Print, case: Case<'_>) -> io::Result<()> {
     let mut room = [0u8; ROOM];
     let file = good::build(case.samples, case.from_word(3), &mut room);
-    let name = case.name();
+    let name = case.name(rt)?;
     let answer = Told::of(reading::read(case.kind(), file));
     println!(rt; "{name} {answer}")
 }

@@ -52,7 +52,7 @@ fn tell_file(rt: &impl Print, kind: u64, file: &[u8]) -> io::Result<()> {
 // How much of the room was left alone, and what was written into it.
 pub(crate) fn tell(rt: &impl Print, case: Case<'_>, answer: Told, room: &[u8]) -> io::Result<()> {
     let file = written(room);
-    let name = case.name();
+    let name = case.name(rt)?;
     let kept = room.len() - file.len();
     print!(rt; "{name} {answer} kept {kept}")?;
     if answer.accepts() {

@@ -5,13 +5,14 @@ use std::io;
 use std::io::Print;
 use words::fields;
 
-// A name, with the turn in place of a * at its end.
+// A name up to its first *, with the turn in place of what is left. Its bytes need not be text.
 fn tell_name(rt: &impl Print, name: &[u8], turn: usize) -> io::Result<()> {
-    let name = str::from_utf8(name).unwrap_or("");
-    match name.strip_suffix('*') {
-        Some(before) => print!(rt; "{before}{turn} "),
-        None => print!(rt; "{name} "),
+    let before = fields::head(b'*', name);
+    rt.write_all(before)?;
+    if before.len() < name.len() {
+        return print!(rt; "{turn} ");
     }
+    rt.write_all(b" ")
 }
 
 fn run(rt: &(impl Files + Print), line: &[u8], turn: usize) -> io::Result<()> {
@@ -22,11 +23,11 @@ fn run(rt: &(impl Files + Print), line: &[u8], turn: usize) -> io::Result<()> {
     folder::posts::post(rt)
 }
 
-// A line that begins with # says what follows, and an empty line parts. *N before a line is that line N times, with the
-// numbers from 0 to N - 1 as the turn.
+// A line that begins with # says what follows, and one that is empty or begins with byte 0 parts. *N before a line is that
+// line N times, with the numbers from 0 to N - 1 as the turn.
 fn run_line(rt: &(impl Files + Print), line: &[u8]) -> io::Result<()> {
     match line {
-        [] | [b'#', ..] => Ok(()),
+        [] | [0 | b'#', ..] => Ok(()),
         [b'*', times @ ..] => {
             for turn in 0..values::number(fields::head(b' ', times), 0) {
                 run(rt, fields::tail(b' ', times), turn)?;
