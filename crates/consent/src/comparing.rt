@@ -15,7 +15,7 @@ pub fn compare(exempt: bool, enrolments: &[u8], evidence: &[u8]) -> Result<(), O
 {
     reading::read_as(Kind::EB13, enrolments).map_err(OfTwo::First)?;
     let mut starts = [0u32; LIMIT];
-    let m = look(exempt, evidence, &mut starts).map_err(OfTwo::Second)?;
+    let m = look(exempt, evidence, &mut starts).map_err(|stopped| OfTwo::Second(stopped.refusal))?;
     headers::headers_tell(enrolments, evidence)?;
     evidenced::records_tell(enrolments, evidence, &starts, m)?;
     Ok(())

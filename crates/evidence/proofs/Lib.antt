@@ -5,6 +5,7 @@ pub mod Told
 pub mod Within
 pub mod Units
 pub mod Looked
+pub mod Stopped
 pub mod Shown
 pub mod Stages
 pub mod Exact

@@ -1,5 +1,6 @@
 -- One whole evidence file, EI13.
 pub mod Blocks
+pub mod Stopping
 pub mod Judged
 pub mod Reading
 pub mod Lying

@@ -10,6 +10,7 @@ use Rattle.keys.specs.Keys.{repeats_in}
 use Rattle.evidence_units.specs.Frames.{frames_told}
 use Rattle.evidence.specs.Blocks.{block, most_blocks, blocks_in, last_block, data_blocks, block_at, records_in}
 use Rattle.evidence.specs.Judged.{header_told, records_told, good_to, byte_of, unit_byte, trailer_told}
+use Rattle.evidence.specs.Stopping.{Looked, looked}
 
 -- whole blocks, and two at least; then no more data blocks than may be
 unfoldable pub is_whole : List ℕ → Bool
@@ -51,6 +52,9 @@ read_of exempt s =
 -- how many records were found good: none where the size or the header is refused
 unfoldable pub good_in : Bool → List ℕ → ℕ
 good_in exempt s = cond (refuses (size_told s then header_told s)) 0 (good_to exempt s)
+
+abbrev pub looked_at : Bool → List ℕ → Looked
+looked_at exempt s = looked (read_of exempt s) (good_in exempt s)
 
 -- a lent list with the first byte of each of them in front
 unfoldable pub places_of : Bool → List ℕ → List ℕ → List ℕ

@@ -1,12 +1,14 @@
 // Each record of an evidence file against its rows, its length and its filler.
-ghost use Rattle.std.specs.Prelude.{◌≡◌, IfOk, ◌++◌, ◌+◌, ◌*◌, ◌≤◌, ◌<◌, length, drop};
+ghost use Rattle.std.specs.Prelude.{◌≡◌, ◌++◌, ◌+◌, ◌*◌, ◌≤◌, ◌<◌, length, drop};
 ghost use Rattle.laws.specs.Tabulate.{tabulate};
 ghost use Rattle.kinds.specs.Kinds.{limit};
 ghost use Rattle.answers.specs.Refusing.{answer_of};
 ghost use Rattle.evidence.specs.Blocks.{most_blocks, blocks_in, last_block, next_of, records_in};
+ghost use Rattle.evidence.specs.Stopping.{looked, looked_by};
 ghost use Rattle.evidence.specs.Judged.{header_told, items_told, length_told, filler_told, block_told, records_told, good_to, byte_of, trailer_told};
 
 use crate::blocks::{BLOCK, FRONT};
+use crate::stopping::Stopped;
 use crate::{blocks, lengths};
 use answers::refusing::Refusal;
 use evidence_rows::by_role;
@@ -83,13 +85,13 @@ fn block_tells(exempt: bool, file: &[u8], b: usize, number: u64) -> Result<(), R
     filler_tells(file, b, number)
 }
 
-// How many records there are, by their lengths; the places hold the first byte of each that is good.
-pub(crate) fn records_tell(exempt: bool, file: &[u8], places: &mut [u32]) -> Result<usize, Refusal>
+// How many records there are, by their lengths, or how many are good before a refusal; the places hold the first byte of each
+// that is good.
+pub(crate) fn records_tell(exempt: bool, file: &[u8], places: &mut [u32]) -> Result<usize, Stopped>
     requires bound { 2 ≤ blocks_in file.now }
     requires file_bound { blocks_in file.now ≤ most_blocks + 2 }
     requires places_len { length places.old ≡ limit }
-    ensures answer_value { answer_of result ≡ records_told exempt file.now }
-    ensures count_value { IfOk result (λ n. n ≡ good_to exempt file.now) }
+    ensures value { looked_by result ≡ looked (records_told exempt file.now) (good_to exempt file.now) }
     ensures places_after { places.new ≡ tabulate (byte_of file.now) (good_to exempt file.now) ++ drop (good_to exempt file.now) places.old }
 {
     let last = blocks::count(file) - 1;
@@ -98,12 +100,17 @@ pub(crate) fn records_tell(exempt: bool, file: &[u8], places: &mut [u32]) -> Res
         if last <= b {
             return Ok(i);
         }
-        block_tells(exempt, file, b, (i + 1) as u64)?;
+        if let Err(refusal) = block_tells(exempt, file, b, (i + 1) as u64) {
+            return Err(Stopped { refusal, good: i });
+        }
         places[i] = (b * BLOCK) as u32;
         b += blocks::blocks_for(blocks::length(file, b));
     }
     if b < last {
-        return Err(Refusal::TooMany);
+        return Err(Stopped {
+            refusal: Refusal::TooMany,
+            good: LIMIT,
+        });
     }
     Ok(LIMIT)
 }

@@ -6,4 +6,5 @@ mod judged;
 pub mod lengths;
 pub mod lying;
 pub mod reading;
+pub mod stopping;
 pub mod totals;

@@ -1,14 +1,16 @@
 // Reading an evidence file: 2, 3; the header; the records; the trailer; 6; 7; 22.
-ghost use Rattle.std.specs.Prelude.{◌≡◌, ℕ, IfOk, ◌+◌, ◌≤◌, ◌<◌, length, get_or};
+ghost use Rattle.std.specs.Prelude.{◌≡◌, ℕ, ◌+◌, ◌≤◌, ◌<◌, length, get_or};
 ghost use Rattle.answers.specs.Answers.{◌then◌};
 ghost use Rattle.answers.specs.Refusing.{answer_of};
 ghost use Rattle.kinds.specs.Kinds.{limit};
 ghost use Rattle.evidence_units.specs.Units.{items, said_at};
 ghost use Rattle.evidence.specs.Blocks.{blocks_in, records_in};
 ghost use Rattle.evidence.specs.Judged.{byte_of, unit_byte, trailer_told};
-ghost use Rattle.evidence.specs.Reading.{is_whole, size_told, counts_told, keys_told, signed_told, read_of, good_in, places_of};
+ghost use Rattle.evidence.specs.Stopping.{looked_by};
+ghost use Rattle.evidence.specs.Reading.{is_whole, size_told, counts_told, keys_told, signed_told, read_of, looked_at, places_of};
 
 use crate::blocks::BLOCK;
+use crate::stopping::Stopped;
 use crate::totals::KEY;
 use crate::{blocks, judged, totals};
 use answers::refusing::Refusal;
@@ -61,18 +63,23 @@ fn rest_tells<'a>(file: &'a [u8], places: &'a [u32], n: usize) -> Result<(), Ref
     framing::frames_tell(file, places, UNIT, n)
 }
 
-// Reads any bytes, says how many records there are, and leaves the first byte of each good one in the places.
-pub fn look(exempt: bool, file: &[u8], places: &mut [u32]) -> Result<usize, Refusal>
+// Reads any bytes, says how many records there are, or how many are good before a refusal, and leaves the first byte of each
+// good one in the places.
+pub fn look(exempt: bool, file: &[u8], places: &mut [u32]) -> Result<usize, Stopped>
     requires { length places.old ≡ limit }
-    ensures answer_value { answer_of result ≡ read_of exempt file.now }
-    ensures count_value { IfOk result (λ n. n ≡ good_in exempt file.now) }
+    ensures value { looked_by result ≡ looked_at exempt file.now }
     ensures places_after { places.new ≡ places_of exempt file.now places.old }
 {
     size_tells(file)?;
     judged::header_tells(file)?;
     let count = judged::records_tell(exempt, file, places)?;
-    rest_tells(file, places, count)?;
-    Ok(count)
+    match rest_tells(file, places, count) {
+        Ok(()) => Ok(count),
+        Err(refusal) => Err(Stopped {
+            refusal,
+            good: count,
+        }),
+    }
 }
 
 // Reads any bytes as an evidence file.

@@ -8,7 +8,7 @@ const EXCEPTIONS: [&str; 1] = ["folder::posts::post"];
 
 /// What is told of a result says which result it is, by a law: what a clause says of the result, the type of the result, and
 /// the law with the file that has it.
-const TOLD: [(&str, &str, &str, &str); 11] = [
+const TOLD: [(&str, &str, &str, &str); 12] = [
     ("answer_of result", "Result<(), Refusal>", "answer_one", "answers/proofs/OneTelling.antt"),
     ("answer_of_two result", "Result<(), OfTwo>", "answer-two_one", "answers/proofs/OneTelling.antt"),
     ("day_answer_of result", "Result<(), OfDay>", "day-answer_one", "answers/proofs/OneTelling.antt"),
@@ -17,19 +17,14 @@ const TOLD: [(&str, &str, &str, &str); 11] = [
     ("shown_by result", "Result<Option<Part>, OfDay>", "shown_one", "answers/proofs/OneTelling.antt"),
     ("story_by result", "Result<Option<u32>, OfResults>", "story_one", "answers/proofs/OneTelling.antt"),
     ("shown_by result", "Result<Option<Part>, Refusal>", "shown_one", "evidence/proofs/OneShown.antt"),
+    ("looked_by result", "Result<usize, Stopped>", "looked_one", "evidence/proofs/Stopped.antt"),
     ("walked_by result", "Result<Option<Record>, Refusal>", "walked_one", "walker/proofs/OneWalk.antt"),
     ("readied_by dates result", "Result<Ready, OfTwo>", "readied_one", "dues/proofs/OneTelling.antt"),
     ("posted_by dates result", "Result<[u8; 12], OfTwo>", "posted_one", "dues/proofs/OneTelling.antt"),
 ];
 
 /// What is said of one function alone, and the law by which it allows one answer: each clause has all of these words.
-const ALONE: [(&str, &[&str], &str, &str); 3] = [
-    (
-        "evidence::reading::look",
-        &["{ answer_of result ≡ ", "{ IfOk result (λ n. n ≡ "],
-        "count_one",
-        "answers/proofs/OneTelling.antt",
-    ),
+const ALONE: [(&str, &[&str], &str, &str); 2] = [
     (
         "reader::repeats::keys_of",
         &[

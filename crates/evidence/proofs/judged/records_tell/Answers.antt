@@ -1,13 +1,13 @@
 -- The loop goes from record to record until the last block, the limit or the first that is refused.
-use Rattle.std.specs.Prelude.{Err}
 use Prim.Native.Nat.{◌+◌}
 use borrow.Author.Rules.{rules}
 use lib.ListN.{length-set}
-use mathlib.Core.Path.{◌≡◌, refl, sym}
+use mathlib.Core.Path.{◌≡◌, refl}
 use native.Mathlib.Omega.{arith}
 use Rattle.laws.proofs.Tabs.{fill_start, fill_more}
+use Rattle.kinds.specs.Kinds.{limit}
 use Rattle.evidence.specs.Blocks.{next_of}
-use Rattle.evidence.specs.Judged.{byte_of}
+use Rattle.evidence.specs.Judged.{good_to, byte_of}
 use Rattle.evidence.proofs.Told.{block-fits, walk-first, walk-stops, walk-past, walk-more, walk-ends}
 use Rattle.answers.proofs.Tellings.{good}
 use Rattle.evidence.proofs.judged.records_tell.Goals as goal
@@ -20,28 +20,24 @@ returns-then-last-b c =
     let l = c.loop-i in
     let told = walk-ends _ _ l.i l.b l.invariant.0 (omega (arith, c.loop-i-test.true)) (omega (arith, c.if-last-b.true, l.invariant.1)) in
     record {
-      answer_value = told.0;
-      count_value = sym told.1;
+      value = rw (told.1, ← told.0) refl;
       places_after = rw told.1 l.invariant.3;
     }
 
-pub returns-in_err-block_tells-clause-answer_value : goal.returns-in_err-block_tells-clause-answer_value
-returns-in_err-block_tells-clause-answer_value c =
+pub returns-in-Err : goal.returns-in-Err
+returns-in-Err c =
     let l = c.loop-i in
-    let r = c.in_err-block_tells.field-0.0 in
-    let e : c.from_residual.result ≡ Err r = search rules in
-    rw e (walk-stops _ _ l.i l.b l.invariant.0 c.loop-i-test.true (omega (arith, c.if-last-b.false, l.invariant.1)) r c.in_err-block_tells.ensures).0
-
-pub returns-in_err-block_tells-clause-places_after : goal.returns-in_err-block_tells-clause-places_after
-returns-in_err-block_tells-clause-places_after c =
-    let l = c.loop-i in
-    rw (walk-stops _ _ l.i l.b l.invariant.0 c.loop-i-test.true (omega (arith, c.if-last-b.false, l.invariant.1)) _ c.in_err-block_tells.ensures).1 l.invariant.3
+    let told = walk-stops _ _ l.i l.b l.invariant.0 c.loop-i-test.true (omega (arith, c.if-last-b.false, l.invariant.1)) c.in-Err.refusal c.in-Err.ensures in
+    record {
+      value = rw (told.1, ← told.0) refl;
+      places_after = rw told.1 l.invariant.3;
+    }
 
 pub overflow_add-b : goal.overflow_add-b
 unfolding next_of
 overflow_add-b c =
     let l = c.loop-i in
-    let next = block-fits _ _ l.b (l.i + 1) (good _ c.in_ok-block_tells.ensures) in
+    let next = block-fits _ _ l.b (l.i + 1) (good _ c.in_default.ensures) in
     rw (c.blocks_for-b.ensures, c.length.ensures.value) (omega (arith, next, c.requires.file_bound))
 
 pub loop-i-preserved : goal.loop-i-preserved
@@ -49,7 +45,7 @@ unfolding next_of byte_of
 loop-i-preserved c =
     let l = c.loop-i in
     let inv = l.invariant in
-    let more = walk-more _ _ l.i l.b inv.0 c.loop-i-test.true (omega (arith, c.if-last-b.false, inv.1)) c.in_ok-block_tells.ensures in (
+    let more = walk-more _ _ l.i l.b inv.0 c.loop-i-test.true (omega (arith, c.if-last-b.false, inv.1)) c.in_default.ensures in (
       rw (c.blocks_for-b.ensures, c.length.ensures.value) more,
       inv.1,
       simp length-set inv.2,
@@ -61,8 +57,7 @@ returns-then-b-last c =
     let l = c.loop-i in
     let told = walk-past _ _ l.i l.b l.invariant.0 (omega (arith, c.loop-i-test.false, l.auto.i-end)) (omega (arith, c.if-b-last.true, l.invariant.1)) in
     record {
-      answer_value = told.0;
-      count_value = search rules;
+      value = rw (told.1, ← told.0) (search rules);
       places_after = rw told.1 l.invariant.3;
     }
 
@@ -70,8 +65,8 @@ pub returns : goal.returns
 returns c =
     let l = c.loop-i in
     let told = walk-ends _ _ l.i l.b l.invariant.0 (omega (arith, l.auto.i-end)) (omega (arith, c.if-b-last.false, l.invariant.1)) in
+    let all : good_to c.args.exempt c.args.file.now ≡ limit = omega (arith, told.1, c.loop-i-test.false, l.auto.i-end) in
     record {
-      answer_value = told.0;
-      count_value = omega (arith, told.1, c.loop-i-test.false, l.auto.i-end);
+      value = rw (all, ← told.0) refl;
       places_after = rw told.1 l.invariant.3;
     }
