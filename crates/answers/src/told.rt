@@ -30,7 +30,7 @@ impl Answer {
     };
 
     // A number with no place.
-    fn refused(number: u64) -> Self
+    pub fn refused(number: u64) -> Self
         ensures { result ≡ refused number }
     {
         Answer::refused_at(number, 0, 0, Answer::UNUSED)
@@ -43,7 +43,7 @@ impl Answer {
         Answer::refused_at(number, rec, item, Answer::UNUSED)
     }
 
-    fn refused_at(number: u64, rec: u64, item: u64, code: u64) -> Self
+    pub fn refused_at(number: u64, rec: u64, item: u64, code: u64) -> Self
         ensures { result ≡ refused_at number rec item code }
     {
         Answer {

@@ -76,7 +76,7 @@ fn bodies_tell(names: Keys, lengths: &[u64], bodies: &[u8]) -> Result<(), OfDay>
 }
 
 // Whether the lengths make up the bodies, then whether all names differ, then body after body.
-pub fn list_tells(names: Keys, lengths: &[u64], bodies: &[u8]) -> Result<(), OfDay>
+fn counted_tell(names: Keys, lengths: &[u64], bodies: &[u8]) -> Result<(), OfDay>
     requires few { length lengths.now ≤ most }
     requires one_each { names.n ≡ length lengths.now }
     requires short { Short (size_at lengths.now) (length lengths.now) }
@@ -89,4 +89,14 @@ pub fn list_tells(names: Keys, lengths: &[u64], bodies: &[u8]) -> Result<(), OfD
         return Err(OfDay::SameName(i as u64 + 1));
     }
     bodies_tell(names, lengths, bodies)
+}
+
+// The same of a list whose front has a length for each name.
+pub fn list_tells(names: Keys, lengths: &[u64], bodies: &[u8]) -> Result<(), OfDay>
+    requires few { names.n ≤ most }
+    requires enough { names.n ≤ length lengths.now }
+    requires short { Short (size_at lengths.now) names.n }
+    ensures { day_answer_of result ≡ list_told (key_of names.entry) (size_at lengths.now) names.entry.n bodies.now }
+{
+    counted_tell(names, &lengths[..names.n], bodies)
 }

@@ -21,7 +21,9 @@ fn read_all(file: &mut impl Read, buf: &mut [u8]) -> io::Result<usize>
 
 // What the file of this name holds, as far as buf holds it; an error where it is missing or cannot be read. A folder opens
 // and is then not read.
-pub(crate) fn read<'a>(rt: &impl Files, name: &str, buf: &'a mut [u8]) -> io::Result<&'a [u8]> {
+pub(crate) fn read<'a>(rt: &impl Files, name: &str, buf: &'a mut [u8]) -> io::Result<&'a [u8]>
+    ensures { IfOk result (λ file. length file.now ≤ length buf.old) }
+{
     let size = read_all(&mut File::open(rt, name)?, buf)?;
     Ok(&buf[..size])
 }

@@ -1,11 +1,10 @@
 // Keys in a slice, with what says where they stand.
 ghost use Rattle.keys.specs.Stands.{Inside};
 
-use crate::chains;
 use crate::chains::LINKS;
 use crate::linked::Linked;
 use crate::stands::Spacing;
-use text::parts;
+use crate::{chains, stands};
 
 // n keys of s, each of which lies within it.
 #[derive(Clone, Copy)]
@@ -30,9 +29,7 @@ impl<'a> Keys<'a> {
         requires { i < self.now.n }
         ensures { result.now ≡ key_of self.now i }
     {
-        let listed = self.places.get(i).map_or(0, |at| *at as usize);
-        let start = i * self.spacing.stride + self.spacing.offset + listed;
-        parts::part(self.s, start, self.spacing.size)
+        stands::key_in(self.s, self.places, self.spacing, i)
     }
 
     // They are chained, in links of no key.

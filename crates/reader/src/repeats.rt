@@ -1,5 +1,5 @@
 // No two data records share a key.
-ghost use Rattle.std.specs.Prelude.{◌≡◌, [], ◌+◌, ◌≤◌};
+ghost use Rattle.std.specs.Prelude.{◌≡◌, [], ◌+◌, ◌≤◌, ◌<◌};
 ghost use Rattle.kinds.specs.Kinds.{limit};
 ghost use Rattle.records.specs.Records.{count_of, data_of};
 ghost use Rattle.answers.specs.Refusing.{answer_of};
@@ -11,7 +11,20 @@ use keys::stands::Spacing;
 use kinds::of_files::{Fixed, Kind};
 use records::listed;
 
-// The keys of a file: one in each data record.
+// Where the keys of a file stand: one in each data record.
+pub fn spacing(kind: Kind) -> Spacing
+    requires { (spacing_of kind).offset < 0x10000000000000000 }
+    ensures { result ≡ spacing_of kind }
+{
+    let fixed = Fixed::of(kind);
+    Spacing {
+        stride: fixed.size,
+        offset: fixed.size + fixed.key.start,
+        size: fixed.key.size,
+    }
+}
+
+// The keys of a file.
 pub fn keys_of(kind: Kind, file: &[u8]) -> Keys<'_>
     requires { 2 ≤ count_of kind file.now }
     ensures s_value { result.s.now ≡ file.now }
@@ -19,15 +32,10 @@ pub fn keys_of(kind: Kind, file: &[u8]) -> Keys<'_>
     ensures spacing_value { result.spacing ≡ spacing_of kind }
     ensures n_value { result.n ≡ data_of kind file.now }
 {
-    let fixed = Fixed::of(kind);
     Keys {
         s: file,
         places: &[],
-        spacing: Spacing {
-            stride: fixed.size,
-            offset: fixed.size + fixed.key.start,
-            size: fixed.key.size,
-        },
+        spacing: spacing(kind),
         n: listed::data_count(kind, file),
     }
 }

@@ -1,8 +1,8 @@
 // An answer with where the evidence of a record lies.
-ghost use Rattle.std.specs.Prelude.{◌≡◌};
+ghost use Rattle.std.specs.Prelude.{◌≡◌, [], ◌∷◌, ◌++◌};
 ghost use Rattle.answers.specs.Lying.{lies_by};
 ghost use Rattle.evidence.specs.Lying.{shown_by};
-ghost use Rattle.telling.specs.Numbers.{three_for, eight_for};
+ghost use Rattle.telling.specs.Numbers.{five, three_for, eight_for};
 
 use answers::lying::Part;
 use answers::refusing::Refusal;
@@ -19,22 +19,30 @@ pub(crate) fn three<E: Copy>(part: Result<Option<Part>, E>) -> [u64; 3]
     }
 }
 
-// Stores the five, then case, first byte and length, and returns the number.
+// Stores the five, then a case, a first byte and a length, and returns the number.
+pub fn tell_place(told: Answer, case: u64, start: u64, size: u64, answer: &mut [u64; 8]) -> u64
+    ensures value { result ≡ told.number }
+    ensures answer_after { answer.new ≡ five told ++ (case ∷ start ∷ size ∷ []) }
+{
+    *answer = [
+        told.side,
+        told.number,
+        told.rec,
+        told.item,
+        told.code,
+        case,
+        start,
+        size,
+    ];
+    told.number
+}
+
+// The same with where the evidence of a record lies.
 pub fn tell_part(shown: Result<Option<Part>, Refusal>, answer: &mut [u64; 8]) -> u64
     ensures value { result ≡ (shown_by shown).answer.number }
     ensures answer_after { answer.new ≡ eight_for (shown_by shown) }
 {
     let said = Answer::of(shown);
     let [case, start, size] = three(shown);
-    *answer = [
-        said.side,
-        said.number,
-        said.rec,
-        said.item,
-        said.code,
-        case,
-        start,
-        size,
-    ];
-    said.number
+    tell_place(said, case, start, size, answer)
 }

@@ -3,6 +3,7 @@ ghost use Rattle.std.specs.Prelude.{◌≡◌};
 ghost use Rattle.walker.specs.Walks.{three_of, walked_by};
 ghost use Rattle.telling.specs.Numbers.{eight};
 
+use crate::part;
 use answers::refusing::Refusal;
 use answers::told::Answer;
 use walker::walking::Record;
@@ -25,15 +26,5 @@ pub fn tell_step(walked: Result<Option<Record>, Refusal>, answer: &mut [u64; 8])
 {
     let said = Answer::of(walked);
     let [case, start, size] = three(walked);
-    *answer = [
-        said.side,
-        said.number,
-        said.rec,
-        said.item,
-        said.code,
-        case,
-        start,
-        size,
-    ];
-    said.number
+    part::tell_place(said, case, start, size, answer)
 }

@@ -1,26 +1,25 @@
--- The tests in their order.
-use mathlib.Core.Path.{sym, ◌∙◌}
-use native.Mathlib.Nat.{le_of_eq}
-use Rattle.day.proofs.Listed.{list-31, repeated-told, distinct-told}
+-- By the front of the list.
+use mathlib.Core.Path.{refl, ◌∙◌}
+use lib.Seq.{length-take-le, get_or-take}
+use Rattle.day.specs.Bodies.{size_at}
+use Rattle.day.proofs.Listed.{list_same}
 use Rattle.day.proofs.bodies.list_tells.Goals as goal
 
-pub returns-then-total-bodies : goal.returns-then-total-bodies
-returns-then-total-bodies c = sym (list-31 _ _ _ _ (λ q. c.if-total-bodies.true (c.total.ensures.value ∙ q)))
-
-pub bodies_tell-requires : goal.bodies_tell-requires
-bodies_tell-requires c =
-    record {
+pub counted_tell-requires : goal.counted_tell-requires
+unfolding size_at
+counted_tell-requires c =
+    let l = c.args.lengths.now in
+    let n = c.args.names.n in
+    rw (length-take-le n l c.requires.enough) (record {
       few = c.requires.few;
-      one_each = c.requires.one_each;
-      n_in_bounds = le_of_eq (sym c.total.ensures.value ∙ c.if-total-bodies.false);
-    }
-
-pub returns-in-Some : goal.returns-in-Some
-returns-in-Some c =
-    let all = sym c.total.ensures.value ∙ c.if-total-bodies.false in
-    sym (repeated-told _ _ _ _ all _ c.requires.one_each _ (sym c.in-Some.is ∙ c.first_repeat.ensures))
+      one_each = refl;
+      short = λ i h. rw (get_or-take n l i 0 h) (c.requires.short i h);
+    })
 
 pub returns : goal.returns
+unfolding size_at
 returns c =
-    let all = sym c.total.ensures.value ∙ c.if-total-bodies.false in
-    c.bodies_tell.ensures ∙ sym (distinct-told _ _ _ _ all _ c.requires.one_each (sym c.in_default.is ∙ c.first_repeat.ensures))
+    let l = c.args.lengths.now in
+    let n = c.args.names.n in
+    rw (length-take-le n l c.requires.enough) at c.counted_tell.ensures ∙
+    list_same _ _ _ _ n c.args.bodies.now (λ i h. refl) (λ i h. get_or-take n l i 0 h)

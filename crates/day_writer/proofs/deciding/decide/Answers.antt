@@ -1,6 +1,8 @@
 -- Names and lengths first, then what they list.
 use Rattle.std.specs.Prelude.{Err}
-use mathlib.Core.Path.{◌≡◌, refl, sym, ◌∙◌}
+use mathlib.Core.Path.{◌≡◌, sym, ◌∙◌}
+use native.Mathlib.Nat.{le_refl}
+use lib.ListN.{length}
 use borrow.Author.Rules.{rules}
 use Rattle.day_writer.proofs.Decides.{good-given, names-inside, decided-30, decided-by}
 use Rattle.day_writer.proofs.deciding.decide.Goals as goal
@@ -19,7 +21,7 @@ list_tells-requires c =
     let g = good-given a.names.now a.lengths.now (sym c.in-Some.ensures.good) in
     record {
       few = g.few;
-      one_each = refl;
+      enough = le_refl (length a.lengths.now);
       short = g.short;
     }
 

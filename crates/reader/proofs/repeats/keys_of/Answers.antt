@@ -5,4 +5,4 @@ use Rattle.reader.proofs.repeats.keys_of.Goals as goal
 
 pub invariant_of-result : goal.invariant_of-result
 invariant_of-result c =
-    rw (c.of-fixed.ensures, c.data_count.ensures) (record { inside = key_fits c.args.kind c.args.file.now _ (omega (arith, c.requires)) })
+    rw (c.spacing.ensures, c.data_count.ensures) (record { inside = key_fits c.args.kind c.args.file.now _ (omega (arith, c.requires)) })

@@ -1,7 +1,7 @@
 -- A part of s.
 use Rattle.keys.specs.Stands.{start_of, key_in}
 use borrow.Author.Rules.{rules}
-use Rattle.keys.proofs.keyed.Keys.key.Goals as goal
+use Rattle.keys.proofs.stands.key_in.Goals as goal
 
 pub overflow_mul-start : goal.overflow_mul-start
 unfolding start_of
