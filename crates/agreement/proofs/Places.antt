@@ -3,11 +3,12 @@
 use Prim.Native.Nat.{ℕ, ◌+◌, ◌≤◌, ◌<◌}
 use mathlib.Core.Bool.{Bool, true}
 use mathlib.Core.List.{List}
-use mathlib.Core.Path.{◌≡◌, refl}
+use mathlib.Core.Path.{◌≡◌, refl, sym}
 use native.Mathlib.Omega.{arith}
 use borrow.Author.Tests.{eqb-true, leb-true}
 use lib.Dec.{eqb, leb}
 use lib.ListN.{length, get_or, take}
+use lib.Seq.{get_or-take}
 use Rattle.laws.specs.Part.{part}
 use Rattle.laws.proofs.Every.{every, every-at}
 use Rattle.laws.proofs.Parts.{part_join}
@@ -20,7 +21,7 @@ use Rattle.kinds.specs.declared.of_files.Own.{Own}
 use Rattle.kinds.specs.declared.of_pairs.PairKind.{PairKind}
 use Rattle.kinds.specs.declared.of_pairs.Family.{Family}
 use Rattle.kinds.specs.declared.of_pairs.Family.TheVariants.{Enrolment, Debit}
-use Rattle.kinds.specs.Pairs.{request_in, result_in, request_kind, result_kind, mark_start}
+use Rattle.kinds.specs.Pairs.{request_in, result_in, request_kind, result_kind, mark_start, agreed}
 use Rattle.agreement.specs.Items.{Compared, Headers, Records, header_items, compared_of}
 use Rattle.agreement.specs.Same.{SameItems, Agree}
 
@@ -50,6 +51,19 @@ pub compared-inside :
     (p : PairKind) (c : Compared) (i : ℕ) → i < length (compared_of p c) →
     (get_or (compared_of p c) i no_item).1 + (get_or (compared_of p c) i no_item).2 ≤ (fixed_of (request_kind p)).size
 compared-inside p c i h = leb-true _ (fixed_of (request_kind p)).size (every-at (fits p.request p.family) (compared_of p c) (compared-fit p c) i no_item h)
+
+-- the headers' items are the first of four
+pub headers-agreed : (p : PairKind) → length (compared_of p Headers) ≡ agreed p
+unfolding header_items
+headers-agreed p =
+    eqb-true _ (agreed p)
+    (of-family (λ f. eqb (length (in_family p.request Headers f)) (fixed_of (request_in f p.request)).agreed) refl p.family)
+
+pub agreed-most : (p : PairKind) → agreed p ≤ 4
+agreed-most p = leb-true (agreed p) 4 (of-family (λ f. leb (fixed_of (request_in f p.request)).agreed 4) refl p.family)
+
+pub header-compared : (p : PairKind) (i : ℕ) → i < length (compared_of p Headers) → get_or header_items i no_item ≡ get_or (compared_of p Headers) i no_item
+header-compared p i h = sym (get_or-take (agreed p) header_items i no_item (rw (headers-agreed p) at h))
 
 -- records that agree in every copied item have the same key: it is two copied items, 5 and 6 or 11 and 12
 agree-key-in :

@@ -10,4 +10,5 @@ pub mod Money
 pub mod Days
 pub mod Once
 pub mod First
+pub mod Stepped
 pub mod Whole

@@ -158,7 +158,15 @@ module _ (s : List ℕ) (good : Meets EB11 s) where
     found_none : (at < n → halves_in s i at ≡ false) → n ≡ other_of s i
     found_none f = sym (other_none i (λ j h. ⊎_elim (λ t. absurd (clash t (rw (here j h t) at (f (rw (here j h t) h))))) (λ g. g) (either (halves_in s i j))))
 
--- the same of n records whose keys are chained: what is found, if anything is
+-- the same of n records whose keys are chained
+module _ (s : List ℕ) (n : ℕ) (links : List ℕ) (k : Keyed s n links) (i at : ℕ) (found : at ≡ place_in (key_in [] (spacing_of EB11) s) n (other_key (record_in s i))) where
+  pub keyed-other : at < n → halves_in s i at ≡ true → at ≡ other_of s i
+  keyed-other h t = found-other s k.meets i at (rw k.all at found) (rw k.all at h) t
+
+  pub keyed-none : (at < n → halves_in s i at ≡ false) → n ≡ other_of s i
+  keyed-none f = k.all ∙ found_none s k.meets i at (rw k.all at found) (λ h. f (rw k.all h))
+
+-- and what is found, if anything is
 module _ (s : List ℕ) (n : ℕ) (links : List ℕ) (k : Keyed s n links) (i : ℕ) where
   abbrev place : ℕ
   place = place_in (key_in [] (spacing_of EB11) s) n (other_key (record_in s i))

@@ -1,6 +1,6 @@
 -- What no refusal says.
 -- Assumes nothing.
-use Prim.Native.Nat.{ℕ, ◌<◌}
+use Prim.Native.Nat.{ℕ, ◌≤◌, ◌<◌}
 use mathlib.Core.Bool.{Bool, true, false, cond, not, ◌&&◌}
 use mathlib.Core.List.{List}
 use mathlib.Core.Logic.{⊎_elim}
@@ -15,7 +15,7 @@ use Rattle.laws.proofs.Leasts.{none_each, none-if}
 use Rattle.laws.proofs.Positions.{none_all}
 use Rattle.answers.specs.Answers.{accepted, refused, first_told}
 use Rattle.answers.proofs.Refusals.{number_of, tested, told, then-second, then-zero, all_told, told-all}
-use Rattle.kinds.specs.Kinds.{EB11}
+use Rattle.kinds.specs.Kinds.{EB11, limit}
 use Rattle.records.specs.Records.{data_of}
 use Rattle.reader.specs.Reading.{read_as}
 use Rattle.reader.specs.Meets.{Meets}
@@ -85,6 +85,9 @@ module _ (s answers : List ℕ) where
 
   pub decided-many : (decided s answers).number ≡ 0 → length answers ≡ data_of EB11 s
   decided-many z = answers-many answers (data_of EB11 s) (decided-stages z).answered
+
+  pub decided-few : (decided s answers).number ≡ 0 → length answers ≤ limit
+  decided-few z = omega (arith, decided-many z, (decided-stages z).meets.lengths.most)
 
   -- number 0 is accepted
   pub decided-zero : (decided s answers).number ≡ 0 → decided s answers ≡ accepted

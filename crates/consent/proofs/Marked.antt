@@ -194,7 +194,7 @@ module _ (e s : List ℕ) (keys : (keys_told s).number ≡ 0) (l : List Bool) (j
   marked-says zero = no-mark
   marked-says (suc i) = rw (← add-one i) (one_more i (marked-says i))
 
-  marked-told : unmarked_told (marked_to e s (data_of EB13 e) l) j ≡ foreign_told e s j
+  pub marked-told : unmarked_told (marked_to e s (data_of EB13 e) l) j ≡ foreign_told e s j
   unfolding unmarked_told foreign_told
   marked-told = not-marked (get_or (marked_to e s (data_of EB13 e) l) j false) (marked-says (data_of EB13 e))
     where

@@ -1,6 +1,6 @@
 -- What is decided: names and lengths given well, and the bodies told of as in reading.
 -- Assumes nothing.
-use Prim.Native.Nat.{ℕ, ◌+◌, ◌*◌, ◌<◌}
+use Prim.Native.Nat.{ℕ, ◌+◌, ◌*◌, ◌≤◌, ◌<◌}
 use mathlib.Core.Bool.{true, false}
 use mathlib.Core.List.{List, []}
 use mathlib.Core.Path.{◌≡◌, refl, sym, ◌∙◌, ap}
@@ -14,6 +14,7 @@ use Rattle.laws.specs.Part.{part}
 use Rattle.laws.proofs.Bools.{and_left, and_right, either}
 use Rattle.laws.proofs.Leasts.{none_each, none-if}
 use Rattle.laws.proofs.Parts.{part_length}
+use Rattle.laws.proofs.Sums.{sum_bound}
 use Rattle.answers.specs.OfDay.{day_accepted, bad_contents}
 use Rattle.answers.proofs.OfDay.{day-number}
 use Rattle.keys.specs.declared.stands.Spacing.{Spacing}
@@ -92,3 +93,9 @@ module _ (names lengths : List ℕ) where
     -- *Exact*: decided good exactly when given well, with bodies that belong to their names
     pub decided-exact : (decided names lengths bodies ≡ day_accepted) ↔ (Given names lengths × Listed (name_of names) (size_at lengths) (length lengths) bodies)
     decided-exact = (λ e. (decided-given (day-number e), decided-listed (day-number e)), λ p. listed-decided p.0 p.1)
+
+    -- bodies are not too many bytes
+    pub bodies-few : (decided names lengths bodies).number ≡ 0 → length bodies ≤ most * length_end
+    bodies-few z =
+        let g = decided-given z in
+        omega (arith, g.few, (decided-listed z).all, sum_bound (size_at lengths) length_end (length lengths) (λ k h. omega (arith, g.short k h)))

@@ -44,6 +44,12 @@ module _ (exempt : Bool) (s : List ℕ) where
   unfolding good_in
   good-records z h = rw (then-second (size_told s) (header_told s) z, refuses-not (header_told s) h)
 
+  -- and a record that is refused is told
+  module _ (z : (size_told s).number ≡ 0) (h : (header_told s).number ≡ 0) where
+    pub at_records : ((records_told exempt s).number ≡ 0 → ⊥) → read_of exempt s ≡ records_told exempt s
+    unfolding read_of
+    at_records ne = then-second (size_told s) _ z ∙ (then-second (header_told s) _ h ∙ then-first (records_told exempt s) _ ne)
+
   -- nothing of that and no record is: what is told is told of the trailer, the counts, the keys and the frames
   pub at_rest : (size_told s).number ≡ 0 → (header_told s).number ≡ 0 → (records_told exempt s).number ≡ 0 → read_of exempt s ≡ (trailer_told s then (counts_told s then (keys_told s then signed_told s)))
   unfolding read_of

@@ -1,5 +1,5 @@
 -- The rows of an evidence file laid out over as many places as the longest table has: blocks can be judged by them, and they tell what they tell.
--- Assumes nothing.
+-- No code lays a table out any more. Assumes nothing.
 use Prim.Native.Nat.{ℕ, zero, suc, ◌+◌, ◌≤◌, zero-le}
 use mathlib.Core.Bool.{Bool, true, false, ◌&&◌}
 use mathlib.Core.List.{List, [], ◌∷◌}

@@ -18,15 +18,15 @@ use Rattle.evidence_units.specs.Units.{sort_at, evidence_at}
 use Rattle.evidence_units.specs.Frames.{SignedIf, frame_good, frame_told, frames_told}
 
 module _ (kind : ℕ) (evidence : List ℕ) where
-  other-good : (kind ≡ 0x32 → ⊥) → frame_good kind evidence ≡ true
+  pub other-good : (kind ≡ 0x32 → ⊥) → frame_good kind evidence ≡ true
   unfolding frame_good
   other-good ne = rw (ne_eqb kind 0x32 ne)
 
-  empty-good : length evidence ≡ 0 → frame_good kind evidence ≡ true
+  pub empty-good : length evidence ≡ 0 → frame_good kind evidence ≡ true
   unfolding frame_good
   empty-good e = or_right (not (eqb kind 0x32)) _ (or_left (eqb (length evidence) 0) (is_signed evidence) (eq-eqb (length evidence) 0 e))
 
-  signed-good : kind ≡ 0x32 → (length evidence ≡ 0 → ⊥) → frame_good kind evidence ≡ is_signed evidence
+  pub signed-good : kind ≡ 0x32 → (length evidence ≡ 0 → ⊥) → frame_good kind evidence ≡ is_signed evidence
   unfolding frame_good
   signed-good e ne = rw (eq-eqb kind 0x32 e, ne_eqb (length evidence) 0 ne)
 

@@ -1,4 +1,4 @@
--- What is told of the units, unit by unit: where a loop over them stands, and where it ends.
+-- What is told of the units, unit by unit: where a loop over them stands, and where it ends; and of all that is given, stage by stage.
 -- Assumes nothing.
 use Prim.Native.Nat.{ℕ, ◌+◌, ◌≤◌, ◌<◌}
 use mathlib.Core.Bool.{Bool}
@@ -12,7 +12,7 @@ use Rattle.answers.specs.declared.refusing.Refusal.{Refusal}
 use Rattle.answers.specs.declared.refusing.Refusal.TheVariants.{TooMany}
 use Rattle.answers.specs.Answers.{accepted, refused, refuses_at, ◌then◌}
 use Rattle.answers.specs.Refusing.{told_by}
-use Rattle.answers.proofs.Refusals.{So-far, refuses-is, refuses-not, then-second, told-end, all_told}
+use Rattle.answers.proofs.Refusals.{So-far, refuses-is, refuses-not, then-first, then-second, told-end, all_told}
 use Rattle.answers.proofs.Tellings.{bad, good, loop-start, loop-stop, loop-more}
 use Rattle.kinds.specs.Kinds.{limit}
 use Rattle.evidence.specs.Blocks.{blocks_for, most_blocks}
@@ -39,6 +39,16 @@ pub record Walk (exempt : Bool) (header code x : List ℕ) (i p b : ℕ) : Type 
   pub so-far : So-far (record_told exempt header code x) i
 
 module _ (exempt : Bool) (header code x : List ℕ) where
+  module _ (i : ℕ) where
+    -- the limit's next unit is 3, every other one by what it holds
+    pub record-limit : i ≡ limit → record_told exempt header code x i ≡ refused 3
+    unfolding record_told
+    record-limit e = rw (eq-eqb i limit e)
+
+    pub record-unit : (i ≡ limit → ⊥) → record_told exempt header code x i ≡ unit_told exempt header code x (place_of x i) (blocks_to x i) (i + 1)
+    unfolding record_told
+    record-unit ne = rw (ne_eqb i limit ne)
+
   pub walk-first : Walk exempt header code x 0 0 0
   walk-first = record {
     within = omega arith;
@@ -110,6 +120,19 @@ module _ (exempt : Bool) (header code x : List ℕ) where
     walk-ends l h =
         let n = way_end x i w.under-way l (rw w.here at h) in
         rw n (sym (told-end (record_told exempt header code x) i w.so-far), w.so-far)
+
+-- everything but the room, stage by stage
+module _ (exempt : Bool) (date code x : List ℕ) where
+  abbrev Header : List ℕ
+  Header = header_block date code (units_in x)
+
+  pub at-parts : ((parts_told date code).number ≡ 0 → ⊥) → decided exempt date code x ≡ parts_told date code
+  unfolding decided
+  at-parts ne = then-first (parts_told date code) _ ne
+
+  pub at-header : (parts_told date code).number ≡ 0 → ((header_told Header).number ≡ 0 → ⊥) → decided exempt date code x ≡ header_told Header
+  unfolding decided
+  at-header z ne = then-second (parts_told date code) _ z ∙ then-first (header_told Header) _ ne
 
 -- a date, a code and a header that are good: what is told is told of the units, their keys and their frames
 pub at-units :

@@ -7,7 +7,7 @@ use mathlib.Core.Bool.{Bool, true, false, cond}
 use mathlib.Core.List.{List}
 use mathlib.Core.Path.{◌≡◌, refl, sym, ◌∙◌, ap}
 use mathlib.Core.Logic.{⊎_elim}
-use native.Mathlib.Nat.{le_refl, mod-lt, eq-or-lt_of_le, le_of_suc-le-suc, not-suc-le-zero}
+use native.Mathlib.Nat.{le_refl, le_trans, mod-lt, eq-or-lt_of_le, le_of_suc-le-suc, not-suc-le-zero}
 use native.Mathlib.Numerals.{add-one}
 use native.Mathlib.Omega.{arith}
 use borrow.Author.Tests.{lt-ltb, eq-eqb, eqb-true, eqb-false, ltb-true, ltb-false}
@@ -81,6 +81,10 @@ module _ (p : ℕ → Bool) where
 
   pub last_none : (n : ℕ) → last p n ≡ 0 → (i : ℕ) → i < n → p i ≡ false
   last_none n e i h = last-above n i (rw e zero-le) h
+
+  pub last_found : (n i : ℕ) → i < n → p i ≡ true → 0 < last p n
+  last_found n i h t =
+      ⊎_elim (λ l. ltb-true 0 (last p n) l) (λ f. absurd (clash t (last-above n i (le_trans (ltb-false 0 (last p n) f) zero-le) h))) (either (ltb 0 (last p n)))
 
   pub last_some : (n : ℕ) → some p n ≡ ltb 0 (last p n)
   last_some n = ⊎_elim found missing (either (ltb 0 (last p n)))

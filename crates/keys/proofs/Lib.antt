@@ -2,6 +2,7 @@
 pub mod Hashing
 pub mod Found
 pub mod Spaced
+pub mod Steps
 pub mod Distinct
 pub mod Chained
 pub mod Searched

@@ -1,5 +1,5 @@
 -- Blank rows behind a record's rows change nothing that judging tells, so a table may be laid out over as many places as the longest has.
--- Assumes nothing.
+-- No code lays a table out any more. Assumes nothing.
 use Prim.Native.Nat.{ℕ, ◌+◌, ◌≤◌}
 use mathlib.Core.Bool.{cond}
 use mathlib.Core.List.{List}

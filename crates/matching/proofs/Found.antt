@@ -2,9 +2,9 @@
 -- Assumes nothing.
 use Prim.Native.Nat.{ℕ, ◌≤◌, ◌<◌}
 use mathlib.Core.List.{List, []}
-use mathlib.Core.Path.{◌≡◌, ◌∙◌}
+use mathlib.Core.Path.{◌≡◌, sym, ◌∙◌, ap}
 use native.Mathlib.Omega.{arith}
-use lib.ListN.{length, get_or}
+use lib.ListN.{length, get_or, replicate, length-replicate}
 use mir.Syntax.{w64}
 use mir.Val.{Fits}
 use Rattle.laws.proofs.Leasts.{least-is, least-same}
@@ -20,6 +20,10 @@ use Rattle.kinds.specs.declared.of_pairs.PairKind.{PairKind}
 use Rattle.kinds.specs.Pairs.{request_kind, result_kind}
 use Rattle.matching.specs.Amounts.{not_taken_by, not_taken_at}
 use Rattle.matching.specs.Matching.{has_key, place_of, request_for, result_for, requests_for, results_for}
+
+-- a list that comes zeroed
+pub zeros : (n : ℕ) → replicate {A = ℕ} n 0 ≡ replicate (length (replicate {A = ℕ} n 0)) 0
+zeros n = ap (λ (k : ℕ). replicate k 0) (sym (length-replicate {A = ℕ} n 0))
 
 -- a key's place by the places of the keys in the file
 place-by : (k : Kind) (s key : List ℕ) → place_in (key_in [] (spacing_of k) s) (data_of k s) key ≡ place_of k s key

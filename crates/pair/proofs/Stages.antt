@@ -4,7 +4,7 @@ use Prim.Native.Nat.{ℕ, ◌≤◌}
 use mathlib.Core.Bool.{Bool, true, false}
 use mathlib.Core.List.{List, ◌++◌}
 use mathlib.Core.Logic.{⊎_elim}
-use mathlib.Core.Path.{◌≡◌, refl, ◌∙◌}
+use mathlib.Core.Path.{◌≡◌, refl, ◌∙◌, ap}
 use native.Mathlib.Omega.{arith}
 use borrow.Author.Tests.{leb-true, eq-eqb, ne_eqb}
 use lib.Dec.{leb}
@@ -14,7 +14,7 @@ use Rattle.laws.proofs.Bools.{and_left, and_right, either}
 use Rattle.kinds.specs.declared.of_files.Kind.{Kind}
 use Rattle.answers.specs.declared.told.Answer.{Answer}
 use Rattle.answers.specs.Answers.{accepted, refused, ◌then◌, on_side}
-use Rattle.answers.proofs.Refusals.{then-first, then-second, then-zero}
+use Rattle.answers.proofs.Refusals.{then-first, then-second, then-zero, number_of}
 use Rattle.records.specs.Records.{data_of}
 use Rattle.reader.specs.Reading.{read_as}
 use Rattle.kinds.specs.declared.of_pairs.PairKind.{PairKind}
@@ -22,6 +22,10 @@ use Rattle.kinds.specs.Pairs.{request_kind, result_kind}
 use Rattle.agreement.specs.Meeting.{headers_tell}
 use Rattle.pair.specs.Results.{results_tell}
 use Rattle.pair.specs.Pairing.{room_tells, pair_by, lists_fit, pair_as, list_after}
+
+-- the number of an answer that reading gave for what is this kind
+pub read_number : (kind k : Kind) (s : List ℕ) (a : Answer) → k ≡ kind → a ≡ read_as k s → a.number ≡ (read_as kind s).number
+read_number kind k s a is told = number_of (told ∙ ap (λ (x : Kind). read_as x s) is)
 
 module _ (p : PairKind) (q r : List ℕ) (fits : Bool) where
   pub by-request : ((read_as (request_kind p) q).number ≡ 0 → ⊥) → pair_by p q r fits ≡ on_side 1 (read_as (request_kind p) q)

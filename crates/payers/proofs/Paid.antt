@@ -2,7 +2,7 @@
 -- Assumes nothing.
 use Rattle.std.specs.Prelude.{Option}
 use Rattle.std.specs.Option.{is_some}
-use Prim.Native.Nat.{ℕ, suc, ◌+◌, ◌≤◌, ◌<◌, ◌^◌, zero-le}
+use Prim.Native.Nat.{ℕ, suc, ◌+◌, ◌-◌, ◌≤◌, ◌<◌, ◌^◌, zero-le}
 use mathlib.Core.Bool.{Bool, true, false, ◌&&◌}
 use mathlib.Core.List.{List}
 use mathlib.Core.Logic.{⊎_elim}
@@ -44,6 +44,11 @@ module _ (key : ℕ → List ℕ) (payer : List ℕ) where
     within = omega (arith, last_within (has_key_in key payer) m);
     names = λ i q. last-holds (has_key_in key payer) m i (sym e ∙ q);
   }
+
+  -- where the loop stands is one of them
+  module _ (n at : ℕ) (o : Own key payer n at) (left : 0 < at) where
+    pub own-inside : at - 1 < n
+    own-inside = omega (arith, o.within)
 
   -- where the loop stands, at request i + 1
   module _ (n i : ℕ) (o : Own key payer n (suc i)) where

@@ -1,13 +1,13 @@
 -- The held payers lie within the room that is lent, and how many they are.
 -- Assumes nothing.
 use Prim.Native.Nat.{ℕ, ◌+◌, ◌-◌, ◌*◌, ◌≤◌, ◌<◌}
-use mathlib.Core.Bool.{Bool, true, cond, not}
+use mathlib.Core.Bool.{Bool, true, false, cond, not}
 use mathlib.Core.List.{List, []}
 use mathlib.Core.Logic.{⊎_elim}
 use mathlib.Core.Path.{◌≡◌}
 use native.Mathlib.Nat.{le_refl}
 use native.Mathlib.Omega.{arith}
-use borrow.Author.Tests.{leb-false, lt-leb, ltb-true}
+use borrow.Author.Tests.{leb-false, le-leb, lt-leb, ltb-true}
 use lib.Dec.{leb, ltb}
 use lib.ListN.{length}
 use Rattle.laws.proofs.Bools.{either, and_right}
@@ -17,6 +17,10 @@ use Rattle.payers.specs.declared.turns.Place.{Place}
 use Rattle.payers.specs.Turns.{held, held_spacing, held_in, placed, goes_on}
 
 module _ (p : Place) where
+  pub held_all : held ≤ p.at - p.from → held_in p ≡ held
+  unfolding held_in
+  held_all h = rw (le-leb held (p.at - p.from) h)
+
   pub held-some : p.at - p.from < held → held_in p ≡ p.at - p.from
   unfolding held_in
   held-some h = rw (lt-leb held (p.at - p.from) h)
@@ -39,3 +43,7 @@ module _ (p : Place) where
 -- a place stays one, whether the payer was seen or not
 abbrev pub moved_by : Bool → Place → Place
 moved_by b p = cond b (placed p.from p.at p.at) (placed p.from (p.at + 1) p.end)
+
+pub moved-within : (b : Bool) (p : Place) → p.from ≤ p.at → p.at < p.end → (moved_by b p).from ≤ (moved_by b p).end
+moved-within true p begun below = begun
+moved-within false p begun below = omega arith

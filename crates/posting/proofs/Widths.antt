@@ -2,8 +2,9 @@
 -- Assumes nothing.
 use Prim.Native.Nat.{ℕ, suc, ◌+◌, ◌*◌, ◌/◌, ◌^◌, ◌≤◌, ◌<◌}
 use mathlib.Core.List.{[], ◌∷◌}
-use mathlib.Core.Path.{◌≡◌, refl, ◌∙◌}
-use native.Mathlib.Nat.{le_trans, mul_comm, pow-suc, one-le-pow, pow-le-pow_right, div-lt_iff_lt-mul}
+use mathlib.Core.Path.{◌≡◌, refl, sym, ◌∙◌}
+use native.Mathlib.Nat.{le_trans, mul_comm, pow-suc, one-le-pow, pow-le-pow_right, div-lt_iff_lt-mul, div-div-eq-div-mul}
+use native.Mathlib.Numerals.{add-one}
 use native.Mathlib.Omega.{arith}
 use Rattle.std.proofs.Common.{lit<}
 use Rattle.std.proofs.lemmas.Nat.{le-div}
@@ -15,6 +16,10 @@ use Rattle.numbers.specs.Numbers.{digits_of}
 use Rattle.numbers.proofs.Values.{digits-length}
 use Rattle.posting.specs.Decimal.{last_left, width_of, decimal}
 use Rattle.posting.specs.Lines.{number_then}
+
+-- one more digit taken off
+pub tenth : (n w : ℕ) → n / 10 ^ (w + 1) ≡ n / 10 ^ w / 10
+tenth n w = rw (add-one, pow-suc) (sym (div-div-eq-div-mul n (10 ^ w) 10))
 
 -- the highest power of ten in a number says how many digits it has
 pub width-log : (n d : ℕ) → d < 20 → 10 ^ d ≤ n → n < 10 * 10 ^ d → width_of n ≡ d + 1

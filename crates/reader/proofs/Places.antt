@@ -73,3 +73,7 @@ keys-by k s i h e = ap (repeat_told k (data_of k s)) (e ∙ first-place k s (dat
 pub key_fits : (k : Kind) (s : List ℕ) (n : ℕ) → n + 2 ≤ count_of k s → Inside [] (spacing_of k) s n
 key_fits k s n h i l =
     rw (spaced-start (spacing_of k) i) (omega (arith, rw (add-one, suc-mul) at (record-inside k s (i + 1) (omega arith)), key-inside k))
+
+-- where the first key of a file begins fits a word, as it lies within the file
+pub first_fits : (k : Kind) (s : List ℕ) → 2 ≤ count_of k s → length s < 0x10000000000000000 → (spacing_of k).offset < 0x10000000000000000
+first_fits k s h l = omega (arith, record-inside k s 1 (omega arith), key-inside k)

@@ -1,5 +1,5 @@
 -- The laws of `laid_out`: blank rows behind a table change no search, and no record has more rows than places.
--- Assumes nothing.
+-- No code lays a table out any more. Assumes nothing.
 use Prim.Native.Nat.{ℕ, zero, suc, ◌+◌, ◌≤◌, ◌<◌, zero-le}
 use mathlib.Core.Bool.{Bool, true}
 use mathlib.Core.List.{List, [], ◌∷◌}

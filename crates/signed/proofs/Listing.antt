@@ -1,6 +1,6 @@
--- Values taken off one after the other: the laws of `is_list` for a loop, and the size of a value.
+-- Values taken off one after the other: the laws of `is_list` for a loop, and how many bytes a value has at most.
 -- Assumes nothing.
-use Prim.Native.Nat.{ℕ, zero, suc, ◌≤◌, ◌<◌}
+use Prim.Native.Nat.{ℕ, zero, suc, ◌+◌, ◌≤◌, ◌<◌}
 use mathlib.Core.Bool.{true, false, ◌||◌}
 use mathlib.Core.List.{List, [], ◌∷◌}
 use mathlib.Core.Path.{◌≡◌, refl, sym, ◌∙◌}
@@ -98,3 +98,14 @@ module _ (left : ℕ) (s : List ℕ) where
   pub size-unframed : framed_in s ≡ 0 → size_within (suc left) s ≡ 0
   unfolding size_within
   size-unframed e = ⊎_elim (λ t. rw t e) (λ f. rw f) (either (eqb (list_bit (get_or s 0 0)) 0 || is_list (size_within left) (contents_in s)))
+
+pub size-within : (left : ℕ) (s : List ℕ) → size_within left s ≤ length s
+size-within zero s = rw (size_none s) (omega arith)
+size-within (suc left) s =
+    ⊎_elim (λ t. rw (size-plain left s (eqb-true _ 0 t)) (framed-within s))
+    (λ f. ⊎_elim (λ t. rw (size-holding left s t) (framed-within s)) (λ g. rw (size-broken left s (eqb-false _ 0 f) g) (omega arith)) (either (is_list (size_within left) (contents_in s))))
+    (either (eqb (list_bit (get_or s 0 0)) 0))
+
+-- one value further lies within them too
+pub step-within : (left at : ℕ) (s : List ℕ) → at ≤ length s → at + size_within left (drop at s) ≤ length s
+step-within left at s h = omega (arith, rw length-drop at (size-within left (drop at s)))

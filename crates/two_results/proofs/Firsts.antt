@@ -7,11 +7,13 @@ use mathlib.Core.Path.{◌≡◌, refl, sym, ◌∙◌}
 use native.Mathlib.Omega.{arith}
 use borrow.Author.Tests.{eq-eqb, ne_eqb}
 use lib.ListN.{get_or}
+use mir.Syntax.{w64}
+use mir.Val.{Fits}
 use Rattle.laws.specs.Least.{least}
 use Rattle.laws.proofs.Leasts.{least-stop, number-here, number-none}
 use Rattle.kinds.specs.declared.of_files.Kind.{Kind}
 use Rattle.kinds.specs.declared.of_pairs.PairKind.{PairKind}
-use Rattle.kinds.specs.Pairs.{request_kind}
+use Rattle.kinds.specs.Pairs.{request_kind, result_kind}
 use Rattle.answers.specs.Answers.{accepted}
 use Rattle.records.specs.Records.{data_of}
 use Rattle.reader.specs.Reading.{read_as}
@@ -19,11 +21,19 @@ use Rattle.reader.specs.Meets.{Lengths}
 use Rattle.reader.proofs.Exact.{read-exact}
 use Rattle.matching.specs.Matching.{results_for}
 use Rattle.matching.specs.Amounts.{taken_at, not_taken_by, not_taken_at}
-use Rattle.matching.proofs.Found.{left-of}
+use Rattle.matching.proofs.Found.{left-of, result_fits}
+use Rattle.pair.specs.First.{BothRead}
 use Rattle.two_results.specs.Comparing.{same_at, other_at, first_other}
 
 pub lengths-of : (k : Kind) (s : List ℕ) → read_as k s ≡ accepted → Lengths k s
 lengths-of k s e = ((read-exact k s).0 e).lengths
+
+-- the place of the result that is found for a request fits a word
+pub result-at :
+    (p : PairKind) (q r : List ℕ) → BothRead p q r → (list : List ℕ) → list ≡ results_for p q r →
+    (i n : ℕ) → n ≡ data_of (request_kind p) q → i < n → Fits w64 (get_or list i 0)
+result-at p q r b list found i n count h =
+    result_fits p q r list found (omega (arith, (lengths-of (request_kind p) q b.request).most)) (omega (arith, (lengths-of (result_kind p) r b.result).most)) i (rw count at h)
 
 -- what the result that is found for a request says was not taken
 pub left_at :
