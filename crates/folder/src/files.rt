@@ -11,12 +11,13 @@ fn read_all(file: &mut impl Read, buf: &mut [u8]) -> io::Result<usize>
     ensures { IfOk result (λ n. n ≤ length buf.new) }
 {
     let mut done = 0;
-    loop {
+    while done < buf.len() {
         match file.read(&mut buf[done..])? {
             0 => return Ok(done),
             more => done += more,
         }
     }
+    Ok(done)
 }
 
 // What the file of this name holds, as far as buf holds it; an error where it is missing or cannot be read. A folder opens
